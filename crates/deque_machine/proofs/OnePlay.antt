@@ -18,7 +18,7 @@ use Rattle.deque_machine.proofs.Kept.{kept, opening_is_lawful}
 use Rattle.deque_machine.proofs.LiveThreads.{one_next}
 use Rattle.deque_machine.proofs.Ends.{one_book}
 use Rattle.deque_machine.specs.Fronts.{PlaysOn, stays_here, takes_turn}
-use Rattle.deque_machine.specs.StepLaws.{OneWay, OnePlay, HasCause, EndingsHaveCauses}
+use Rattle.deque_machine.specs.StepLaws.{OneWay, OnePlay, PlayHasCause, EndingsHaveCauses}
 use Rattle.deque_machine.proofs.StepComplete.{step_complete}
 
 pub one_way : (s : Setting) → 0 < s.quota → IsDepthFirst s.quota s.list → OneWay s
@@ -184,13 +184,13 @@ module _ (s : Setting) (some : 0 < s.quota) (list : IsDepthFirst s.quota s.list)
   -- one turn more in front leads to the same cause
   cause_after : (n : ℕ) (m next last : Moment) (pair : Pair) (later : List Pair) (ending : Ending) → Turn s words n m pair
       → ((stop : Stop) → ¬ Meets s limits m pair.event stop) → May s m pair.worker pair.event next
-      → HasCause s limits words (n + words_drawn m pair.worker) next later last ending → HasCause s limits words n m (pair ∷ later) last ending
+      → PlayHasCause s limits words (n + words_drawn m pair.worker) next later last ending → PlayHasCause s limits words n m (pair ∷ later) last ending
   cause_after n m next last pair later finished turn none may has = has
   cause_after n m next last pair later (stopped stop) turn none may cause =
       (cause.0, cause.1, cause.2, cause.3, takes_turn n m next last pair later cause.0 turn none may cause.4)
 
   cause_from : (n : ℕ) (m : Moment) (run : List Pair) (last : Moment) (ending : Ending) → Plays s limits words n m run last ending
-      → HasCause s limits words n m run last ending
+      → PlayHasCause s limits words n m run last ending
   cause_from n m run last ending (is_over a b has) = has
   cause_from n m run last ending (is_stopped a b pair stop turn meets) = (n, pair, turn, meets, stays_here n m)
   cause_from n m run last ending (goes_on a b next l pair later e turn none may rest) =

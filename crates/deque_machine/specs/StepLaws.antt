@@ -47,14 +47,14 @@ OnePlay s = (limits : Limits) (words : ℕ → ℕ) (run run' : List Pair) (last
 
 -- Why what is played from a moment on, after n words, ends as it does at its last moment: the root has ended, or the event of the turn meets the
 -- stop. The turn is the one after the words that this front of the play drew.
-abbrev pub HasCause : Setting → Limits → (words : ℕ → ℕ) → (n : ℕ) → (first : Moment) → List Pair → (last : Moment) → Ending → Type 0
-HasCause s limits words n first run last finished = HasEnded s last []
-HasCause s limits words n first run last (stopped stop) = (drawn : ℕ) × (pair : Pair) × Turn s words drawn last pair
+abbrev pub PlayHasCause : Setting → Limits → (words : ℕ → ℕ) → (n : ℕ) → (first : Moment) → List Pair → (last : Moment) → Ending → Type 0
+PlayHasCause s limits words n first run last finished = HasEnded s last []
+PlayHasCause s limits words n first run last (stopped stop) = (drawn : ℕ) × (pair : Pair) × Turn s words drawn last pair
     × Meets s limits last pair.event stop × PlaysOn s limits words n first run drawn last
 
 abbrev pub EndingsHaveCauses : Setting → Type 0
 EndingsHaveCauses s = (limits : Limits) (words : ℕ → ℕ) (run : List Pair) (last : Moment) (ending : Ending)
-    → Plays s limits words 0 opening run last ending → HasCause s limits words 0 opening run last ending
+    → Plays s limits words 0 opening run last ending → PlayHasCause s limits words 0 opening run last ending
 
 -- what the computed play answers is the play
 abbrev pub PlayedIsPlay : Setting → Type 0

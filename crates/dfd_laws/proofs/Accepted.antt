@@ -14,20 +14,20 @@ use Rattle.deque_machine.proofs.Ends.{runs_are_short}
 use Rattle.deque_machine.proofs.Kept.{opening_is_lawful}
 use Rattle.deque_machine.proofs.Playing.{plays_are_runs}
 use Rattle.trail_check.specs.Good.{IsGood}
-use Rattle.trail_check.specs.Told.{event_told, events_told}
+use Rattle.trail_check.specs.Told.{event_in_trail, events_in_trail}
 use Rattle.trail_check.specs.Verdicts.{is_accepted}
 use Rattle.trail_check.proofs.Recorded.{plays_are_followed}
 use Rattle.trail_meaning.specs.Ranges.{HasTrailRanges, FitEvents}
-use Rattle.trail_meaning.specs.Shown.{Shown}
+use Rattle.trail_meaning.specs.Shown.{TrailShown}
 use Rattle.trail_check.proofs.Few.{few_from, few_marks}
-use Rattle.trail_check.specs.Checking.{trail_terms, trail_machine, Checks}
+use Rattle.trail_check.specs.Checking.{trail_terms, trail_machine, ChecksTrail}
 use Rattle.trail_text.specs.TrailText.{IsTrail, trail_text}
 use Rattle.dfd_laws.specs.RecordedTrails.{IsOfPlay, TrailsOfPlaysCheck}
 use Rattle.dfd_laws.proofs.Counts.{all_done, last_within, high_fits}
 use Rattle.dfd_laws.proofs.Fits.{fit_events}
 use Rattle.dfd_laws.proofs.Lengths.{trail_is_short}
 
-module _ (c : Setting) (t : Shown) (o : IsOfPlay c t) where
+module _ (c : Setting) (t : TrailShown) (o : IsOfPlay c t) where
   abbrev s : machine.Setting
   s = trail_machine c t
 
@@ -37,14 +37,14 @@ module _ (c : Setting) (t : Shown) (o : IsOfPlay c t) where
   listed : IsDepthFirst s.quota s.list
   listed = whole_is_depth_first c
 
-  good : IsGood s (trail_terms t).limits (events_told o.run) o.run o.last
+  good : IsGood s (trail_terms t).limits (events_in_trail o.run) o.run o.last
   good = plays_are_followed s some_quota listed (trail_terms t).limits o.words o.run o.last (let some = o.setting.deques.0 in omega (arith, some)) o.plays
 
   reaches : Reaches s opening o.run o.last
   reaches = (plays_are_runs s some_quota listed (trail_terms t).limits o.words o.run o.last _ o.plays).0
 
   few_actions : length (booked o.last.books) ≤ t.steps
-  few_actions = (last_within s (trail_terms t).limits opening (events_told o.run) o.run o.last
+  few_actions = (last_within s (trail_terms t).limits opening (events_in_trail o.run) o.run o.last
       (record { words = none t.arena; actions = omega arith; deques = let some = o.setting.deques.0 in omega (arith, some) }) good.follows).actions
     where
       none : (n : ℕ) → pos 0 ≤ℤ pos n
@@ -65,7 +65,7 @@ module _ (c : Setting) (t : Shown) (o : IsOfPlay c t) where
   ranges =
       let books = (few_from s o.run opening o.last reaches).0 in let marks = few_marks o.last.books in let few = few_events in
       let periods = o.numbers.periods in let ahead = o.numbers.ahead in
-      let high = high_fits s some_quota listed (trail_terms t).limits [] opening (events_told o.run) o.run o.last refl (none t.arena) good.follows in record {
+      let high = high_fits s some_quota listed (trail_terms t).limits [] opening (events_in_trail o.run) o.run o.last refl (none t.arena) good.follows in record {
         setting = o.setting;
         source = o.source;
         events = events_fit;
@@ -85,11 +85,11 @@ module _ (c : Setting) (t : Shown) (o : IsOfPlay c t) where
   pub is_trail : IsTrail (trail_text t) t
   is_trail = (
     ranges,
-    trail_is_short t ranges (let size = ap length o.events ∙ length-map o.run event_told in let few = few_events in omega (arith, size, few)),
+    trail_is_short t ranges (let size = ap length o.events ∙ length-map o.run event_in_trail in let few = few_events in omega (arith, size, few)),
     refl,
   )
 
-  pub is_accepted_so : Checks c t (Ok (length (booked o.last.books)))
+  pub is_accepted_so : ChecksTrail c t (Ok (length (booked o.last.books)))
   is_accepted_so = (
     (let all = all_done s some_quota listed o.run o.last reaches good.ended in let few = few_actions in omega (arith, all, few)),
     is_accepted o.run o.last (subst (λ e. IsGood s (trail_terms t).limits e o.run o.last) (sym o.events) good) o.numbers,

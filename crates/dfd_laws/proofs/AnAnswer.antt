@@ -37,7 +37,7 @@ use Rattle.trail_check.specs.CheckLaws.{IsAnswer}
 use Rattle.trail_check.specs.declared.verify_fail.VerifyFail.{VerifyFail}
 use Rattle.trail_check.specs.declared.verify_fail.VerifyFail.TheVariants.{LongRun, BadEvent, NotEnded, WrongNumbers, OutOfMemory as NoRoom}
 use Rattle.trail_check.proofs.Outcomes.{an_answer as a_trail_has_an_answer}
-use Rattle.trail_meaning.specs.Shown.{Shown}
+use Rattle.trail_meaning.specs.Shown.{TrailShown}
 use Rattle.trail_text.proofs.Deciding.{each_read}
 use Rattle.dfd_plays.specs.TrailMessages.{not_trail_text, long_run_text, bad_event_text, not_ended_text, wrong_numbers_text, trail_ok_text}
 use Rattle.dfd_plays.specs.Trails.{Records, TrailMakes, VerifyMakes, VerifyGives}
@@ -203,7 +203,7 @@ some_record : (command : Command) (bytes : List ℕ) (c : Setting) (run : List P
 some_record command bytes c run last = let high = number_of_words c run in (_, (high.0, (high.1, refl)))
 
 -- `verify`: bytes are a trail or refused, and a trail has an answer
-told_answer : (t : Shown) (p : Program) → IsText t.source p → IsAccepted p → (answer : Result ℕ VerifyFail) → IsAnswer (setting_of p t.k) t answer →
+told_answer : (t : TrailShown) (p : Program) → IsText t.source p → IsAccepted p → (answer : Result ℕ VerifyFail) → IsAnswer (setting_of p t.k) t answer →
     Some_answer (SourceGives (VerifyMakes t) t.source)
 told_answer t p is own (Ok actions) a = (Done, (trail_ok_text t.numbers actions, (p, (is, (own, (Ok actions, (a.1, (refl, refl))))))))
 told_answer t p is own (Err (LongRun limit)) a =

@@ -23,11 +23,11 @@ use Rattle.ready_machine.proofs.Ends.{runs_end}
 use Rattle.ready_machine.proofs.Playing.{plays_are_runs, plays_end, plays_finish, endings_have_causes, lists_never_fill, actions_suffice, arenas_with_room_last, arenas_with_the_bound_last}
 use Rattle.ready_machine.proofs.Sharing.{opening_is_ready}
 use Rattle.ready_machine.specs.Entries.{IsReadyList}
-use Rattle.ready_machine.specs.PlayLaws.{CoversNext}
+use Rattle.ready_machine.specs.PlayLaws.{ReadyCoversNext}
 use Rattle.ready_machine.specs.ReadyMachine.{MayReady, ReadyReaches}
 use Rattle.ready_machine.specs.ReadyPlay.{CanGo, ReadyTurn}
 use Rattle.ready_machine.proofs.Ones.{one_way}
-use Rattle.run_report.specs.Shown.{Shown}
+use Rattle.run_report.specs.Shown.{ReportShown}
 use Rattle.dfd_plays.specs.Answer.{HasRanges}
 use Rattle.dfd_plays.specs.Async.{IsAsyncPlay, AsyncMakes, async_terms, async_machine}
 use Rattle.dfd_laws.specs.AsyncHeadline.{AsyncHasDrawn}
@@ -102,7 +102,7 @@ module _ (command : Command) (p : Program) (ranges : HasRanges command) where
       marked_bound (async_machine command p) some_quota listed run last reaches
 
   pub async_reports_are_bounded : (status : Status) (text : List ℕ) → AsyncMakes command p status text → (status ≡ Done) ⊎ (status ≡ UserFault) →
-      (status ≡ finish_status (finish_of_run (play_setting command p))) × ∥ ((shown : Shown) × IsBoundedReport command p text shown) ∥₁
+      (status ≡ finish_status (finish_of_run (play_setting command p))) × ∥ ((shown : ReportShown) × IsBoundedReport command p text shown) ∥₁
   async_reports_are_bounded = bounded_reports IsAsyncPlay command p marks_bound
 
   -- the status of a play that ended otherwise is another one
@@ -163,7 +163,7 @@ module _ (command : Command) (p : Program) (ranges : HasRanges command) where
         };
       }
 
-  pub async_arenas_suffice : (run : List Pair) (last : Moment) (ending : Ending) → IsAsyncPlay command p run last ending → LastsInArena CoversNext command p last ending
+  pub async_arenas_suffice : (run : List Pair) (last : Moment) (ending : Ending) → IsAsyncPlay command p run last ending → LastsInArena ReadyCoversNext command p last ending
   async_arenas_suffice run last ending plays (inl room) live asked is =
       arenas_with_room_last (async_machine command p) some_quota listed (async_terms command).limits (seeded_words command.seed) run last live asked room
       (subst (λ e. IsAsyncPlay command p run last e) is plays)

@@ -15,7 +15,7 @@ use Rattle.deque_machine.specs.Books.{periods_marked}
 use Rattle.par_tree.specs.Tree.{Program}
 use Rattle.ready_machine.proofs.Playing.{plays_are_runs, endings_have_causes, arenas_with_the_bound_last}
 use Rattle.ready_machine.specs.ReadyMachine.{ReadyReaches}
-use Rattle.run_report.specs.Shown.{Shown}
+use Rattle.run_report.specs.Shown.{ReportShown}
 use Rattle.dfd_plays.specs.Answer.{HasRanges}
 use Rattle.dfd_plays.specs.Async.{IsAsyncPlay, AsyncMakes, async_terms, async_machine}
 use Rattle.dfd_plays.specs.Play.{TellsEnding, Reports, play_setting, seeded_words}
@@ -45,7 +45,7 @@ module _ (command : Command) (p : Program) (ranges : HasRanges command) where
 
   reported : command.p ≡ 1 → (run : List Pair) (last : Moment) (ending : Ending) (status : Status) (text : List ℕ) →
       IsAsyncPlay command p run last ending → TellsEnding (Reports (play_setting command p)) (play_setting command p) run last ending status text →
-      (status ≡ Done) ⊎ (status ≡ UserFault) → (shown : Shown) × IsLowReport command p text shown
+      (status ≡ Done) ⊎ (status ≡ UserFault) → (shown : ReportShown) × IsLowReport command p text shown
   reported one run last (stopped stop) status text plays told ended = absurd (not_stopped status stop told.0 ended)
   reported one run last finished status text plays told ended =
       let s = async_machine command p in
@@ -76,7 +76,7 @@ module _ (command : Command) (p : Program) (ranges : HasRanges command) where
       within x top more is = omega (arith, ints, is)
 
   pub async_of_one_reports_the_peak : command.p ≡ 1 → (status : Status) (text : List ℕ) → AsyncMakes command p status text →
-      (status ≡ Done) ⊎ (status ≡ UserFault) → ∥ ((shown : Shown) × IsLowReport command p text shown) ∥₁
+      (status ≡ Done) ⊎ (status ≡ UserFault) → ∥ ((shown : ReportShown) × IsLowReport command p text shown) ∥₁
   async_of_one_reports_the_peak one status text makes ended =
       ∥∥₁_map makes (λ w. reported one w.0 w.1 w.2 status text w.3 w.4 ended)
 

@@ -26,7 +26,7 @@ use Rattle.deque_machine.specs.Books.{periods_marked, bound, booked}
 use Rattle.deque_machine.specs.Lists.{total}
 use Rattle.deque_machine.proofs.OnePlay.{one_way, endings_have_causes}
 use Rattle.par_tree.specs.Tree.{Program}
-use Rattle.run_report.specs.Shown.{Shown}
+use Rattle.run_report.specs.Shown.{ReportShown}
 use Rattle.run_report.specs.declared.summary.Summary.{Summary}
 use Rattle.dfd_plays.specs.Make.{MakeMakes, Summarizes, sum_of}
 use Rattle.dfd_plays.specs.Answer.{HasRanges}
@@ -66,7 +66,7 @@ module _ (IsRun : Command → Program → List Pair → Moment → Ending → Ty
     high_water_mark (play_list command p) run ≤ℤ bound command.k (play_list command p) (periods_marked last.books)) where
   reported : (run : List Pair) (last : Moment) (ending : Ending) (status : Status) (text : List ℕ) → IsRun command p run last ending →
       TellsEnding (Reports (play_setting command p)) (play_setting command p) run last ending status text → (status ≡ Done) ⊎ (status ≡ UserFault) →
-      (status ≡ finish_status (finish_of_run (play_setting command p))) × ((shown : Shown) × IsBoundedReport command p text shown)
+      (status ≡ finish_status (finish_of_run (play_setting command p))) × ((shown : ReportShown) × IsBoundedReport command p text shown)
   reported run last (stopped stop) status text plays told ended = absurd (not_stopped status stop told.0 ended)
   reported run last finished status text plays told ended = (
     told.0,
@@ -89,7 +89,7 @@ module _ (IsRun : Command → Program → List Pair → Moment → Ending → Ty
   )
 
   pub bounded_reports : (status : Status) (text : List ℕ) → TellsRun IsRun Reports command p status text → (status ≡ Done) ⊎ (status ≡ UserFault) →
-      (status ≡ finish_status (finish_of_run (play_setting command p))) × ∥ ((shown : Shown) × IsBoundedReport command p text shown) ∥₁
+      (status ≡ finish_status (finish_of_run (play_setting command p))) × ∥ ((shown : ReportShown) × IsBoundedReport command p text shown) ∥₁
   bounded_reports status text makes ended = (
     same_status status (finish_status (finish_of_run (play_setting command p)))
         (∥∥₁_elim makes (search props) (λ w. ap code_of (reported w.0 w.1 w.2 status text w.3 w.4 ended).0)),
@@ -206,7 +206,7 @@ module _ (command : Command) (p : Program) (ranges : HasRanges command) where
       (plays_are_runs (play_machine command p) some_quota listed (play_terms command).limits (seeded_words command.seed) run last ending plays).0
 
   pub reports_are_bounded : (status : Status) (text : List ℕ) → PlayMakes command p status text → (status ≡ Done) ⊎ (status ≡ UserFault) →
-      (status ≡ finish_status (finish_of_run (play_setting command p))) × ∥ ((shown : Shown) × IsBoundedReport command p text shown) ∥₁
+      (status ≡ finish_status (finish_of_run (play_setting command p))) × ∥ ((shown : ReportShown) × IsBoundedReport command p text shown) ∥₁
   reports_are_bounded = bounded_reports IsPlay command p marks_bound
 
   summed_up : (bytes : List ℕ) (run : List Pair) (last : Moment) (ending : Ending) (status : Status) (text : List ℕ) →

@@ -6,7 +6,7 @@ use Rattle.std.specs.Fmt.{decimal}
 use Rattle.std.proofs.lemmas.Fmt.{length-decimal-le}
 use Rattle.language_limits.specs.declared.TheConstants.{MOST_TRAIL, MOST_WORKERS}
 use Rattle.trail_meaning.specs.Ranges.{HasTrailRanges, FitsKind, FitEvents, FitNumbers, FitSetting}
-use Rattle.trail_meaning.specs.Shown.{Shown}
+use Rattle.trail_meaning.specs.Shown.{TrailShown}
 use Rattle.trail_meaning.specs.declared.trail_event.TrailEvent.{TrailEvent}
 use Rattle.trail_meaning.specs.declared.trail_kind.TrailKind.{TrailKind}
 use Rattle.trail_meaning.specs.declared.trail_kind.TrailKind.TheVariants.{Steal, Act, Suspend, GiveUp}
@@ -78,7 +78,7 @@ concat_append (x ∷ xs) ys =
     let rest = concat_append xs ys in let a = length-append x (concat (xs ++ ys)) in let b = length-append x (concat xs) in omega (arith, rest, a, b)
 
 -- the text of a trail with so few events has at most the bytes of one
-pub trail_is_short : (t : Shown) → HasTrailRanges t → length t.events ≤ 2000128 → length (trail_text t) ≤ MOST_TRAIL
+pub trail_is_short : (t : TrailShown) → HasTrailRanges t → length t.events ≤ 2000128 → length (trail_text t) ≤ MOST_TRAIL
 trail_is_short t ranges few =
     let head = head_length t.k t.p t.arena t.steps t.deques ranges.setting in
     let source = source_length t.source (let h = ranges.source in omega (arith, h)) in

@@ -35,7 +35,7 @@ use Rattle.trail_check.specs.declared.verify_fail.VerifyFail.{VerifyFail}
 use Rattle.trail_check.specs.declared.verify_fail.VerifyFail.TheVariants.{LongRun, BadEvent, NotEnded, WrongNumbers, OutOfMemory as NoRoom}
 use Rattle.trail_check.proofs.Outcomes.{one_answer as a_trail_has_one_answer}
 use Rattle.trail_meaning.specs.Ranges.{HasTrailRanges}
-use Rattle.trail_meaning.specs.Shown.{Shown}
+use Rattle.trail_meaning.specs.Shown.{TrailShown}
 use Rattle.trail_text.specs.TrailText.{trail_text}
 use Rattle.trail_text.proofs.Readings.{one_trail, one_place, never_both}
 use Rattle.dfd_plays.specs.TrailMessages.{not_trail_text}
@@ -315,7 +315,7 @@ one_expansion makes bytes s s' t t' one g g' =
     by_answer (Err fail) told told' = (told.0 ∙ sym told'.0, one_line fail t t' told.1 told'.1)
 
 -- `verify`: bytes are one trail or refused at one place, and a trail has one answer
-one_told : (t : Shown) (answer : Result ℕ VerifyFail) (s s' : Status) (u u' : List ℕ) → TellsCheck t answer s u → TellsCheck t answer s' u' →
+one_told : (t : TrailShown) (answer : Result ℕ VerifyFail) (s s' : Status) (u u' : List ℕ) → TellsCheck t answer s u → TellsCheck t answer s' u' →
     Same s s' u u'
 one_told t (Ok actions) s s' u u' told told' = (told.0 ∙ sym told'.0, told.1 ∙ sym told'.1)
 one_told t (Err (LongRun limit)) s s' u u' told told' = (told.0 ∙ sym told'.0, told.1 ∙ sym told'.1)
@@ -324,15 +324,15 @@ one_told t (Err (NotEnded events)) s s' u u' told told' = (told.0 ∙ sym told'.
 one_told t (Err (WrongNumbers numbers)) s s' u u' told told' = (told.0 ∙ sym told'.0, told.1 ∙ sym told'.1)
 one_told t (Err NoRoom) s s' u u' told told' = absurd told
 
-no_want : (t : Shown) (answer : Result ℕ VerifyFail) (s : Status) (u : List ℕ) → TellsCheck t answer s u → answer ≢ Err NoRoom
+no_want : (t : TrailShown) (answer : Result ℕ VerifyFail) (s : Status) (u : List ℕ) → TellsCheck t answer s u → answer ≢ Err NoRoom
 no_want t answer s u told is = subst (λ a. TellsCheck t a s u) is told
 
-one_verify : (t : Shown) → 0 < t.k → IsOne (VerifyMakes t)
+one_verify : (t : TrailShown) → 0 < t.k → IsOne (VerifyMakes t)
 one_verify t some p s s' u u' m m' =
     let same = a_trail_has_one_answer (setting_of p t.k) t m'.0 m.0 some (no_want t m'.0 s' u' m'.1.1, m'.1.0) (no_want t m.0 s u m.1.1, m.1.0) in
     one_told t m.0 s s' u u' m.1.1 (subst (λ a. TellsCheck t a s' u') same m'.1.1)
 
-quota_of_trail : (t : Shown) → HasTrailRanges t → 0 < t.k
+quota_of_trail : (t : TrailShown) → HasTrailRanges t → 0 < t.k
 quota_of_trail t ranges = let least = ranges.setting.quota.0 in omega (arith, least)
 
 pub one_trail_answer : (bytes : List ℕ) (s s' : Status) (u u' : List ℕ) → VerifyGives bytes s u → VerifyGives bytes s' u' → Same s s' u u'

@@ -21,7 +21,7 @@ use Rattle.ready_machine.proofs.Along.{ahead_is_marked, bound_in_ready, events_k
 use Rattle.ready_machine.proofs.Aside.{ready_runs_go_on}
 use Rattle.ready_machine.proofs.Sharing.{in_reach, opening_is_ready}
 use Rattle.ready_machine.specs.Entries.{entry, IsReadyList}
-use Rattle.ready_machine.specs.PlayLaws.{CoversNext}
+use Rattle.ready_machine.specs.PlayLaws.{ReadyCoversNext}
 use Rattle.ready_machine.specs.ReadyMachine.{IsShared, MayReady, takes, forks_left, as_with_deques, ReadyReaches}
 
 -- what an event that begins no marked period does to the books: its action is done once more, and as many periods are marked as before
@@ -227,7 +227,7 @@ module _ (s : Setting) (some : 0 < s.quota) (list : IsDepthFirst s.quota s.list)
 
   -- an arena with room for the peak has room for the bound after whatever comes next
   pub peak_covers : (run : List Pair) (m : Moment) (capacity : ℕ) → ReadyReaches s opening run m → peak s.list ≤ℤ pos capacity
-      → CoversNext s capacity m
+      → ReadyCoversNext s capacity m
   peak_covers run m capacity reaches room worker place n after may takes_words prefix =
       let next = ready_runs_go_on s run m after worker (does place) reaches may in
       let none = none_ahead (run ++ record { worker = worker; event = does place } ∷ []) after n next prefix in

@@ -14,7 +14,7 @@ use Rattle.deque_machine.specs.Runs.{Pair, Reaches}
 use Rattle.deque_machine.specs.Lists.{total}
 use Rattle.hall_machine.specs.Runs.{MeetsOnTheWay}
 use Rattle.par_tree.specs.Tree.{Program}
-use Rattle.run_report.specs.Shown.{Shown}
+use Rattle.run_report.specs.Shown.{ReportShown}
 use Rattle.dfd_plays.specs.Answer.{HasRanges}
 use Rattle.dfd_plays.specs.Peak.{finish_status}
 use Rattle.dfd_plays.specs.Play.{play_setting, play_terms, play_machine}
@@ -31,7 +31,7 @@ module _ (command : Command) (p : Program) (ranges : HasRanges command) where
   moments_are_bounded run last ending runs = run_is_bounded command p ranges run last runs.reaches
 
   pub reports_are_bounded : (status : Status) (text : List ℕ) → RunMakes command p status text → (status ≡ Done) ⊎ (status ≡ UserFault) →
-      (status ≡ finish_status (finish_of_run (play_setting command p))) × ∥ ((shown : Shown) × IsBoundedReport command p text shown) ∥₁
+      (status ≡ finish_status (finish_of_run (play_setting command p))) × ∥ ((shown : ReportShown) × IsBoundedReport command p text shown) ∥₁
   reports_are_bounded =
       bounded_reports IsRunByThreads command p (λ run last ending runs. mark_is_bounded command p ranges run last runs.reaches)
 

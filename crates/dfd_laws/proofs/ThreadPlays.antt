@@ -13,9 +13,9 @@ use Rattle.deque_machine.specs.Moments.{Moment, opening}
 use Rattle.deque_machine.specs.Play.{CanMove, Limits, Stop, arena_full, steps_spent, deques_full, Ending, stopped, Meets, no_steps}
 use Rattle.deque_machine.specs.Runs.{Pair}
 use Rattle.hall_machine.proofs.Stops.{in_range}
-use Rattle.hall_machine.specs.Runs.{MeetsOnTheWay, HasCause as HasThreadCause}
+use Rattle.hall_machine.specs.Runs.{MeetsOnTheWay, StopHasCause}
 use Rattle.deque_machine.proofs.OnePlay.{endings_have_causes}
-use Rattle.deque_machine.specs.StepLaws.{HasCause}
+use Rattle.deque_machine.specs.StepLaws.{PlayHasCause}
 use Rattle.par_tree.specs.Tree.{Program}
 use Rattle.dfd_plays.specs.Answer.{HasRanges}
 use Rattle.dfd_plays.specs.Play.{IsPlay, play_setting, play_terms, play_machine, seeded_words}
@@ -44,7 +44,7 @@ module _ (command : Command) (p : Program) (ranges : HasRanges command) where
       (run, [], sym (append-nil run), last, reaches, ((cause.1).worker, below, words (suc cause.0), (cause.1).event, (cause.2).wants, cause.3))
 
   spent : (run : List Pair) (last : Moment) (limit : ℕ) → IsPlay command p run last (stopped (steps_spent limit)) →
-      HasThreadCause (play_machine command p) (play_terms command).limits run (steps_spent limit)
+      StopHasCause (play_machine command p) (play_terms command).limits run (steps_spent limit)
   spent run last limit plays =
       let s = play_machine command p in
       let limits = (play_terms command).limits in
@@ -59,7 +59,7 @@ module _ (command : Command) (p : Program) (ranges : HasRanges command) where
       by_length false e = leb-false (length (list_of (play_setting command p))) command.steps e
 
   stop_has_cause : (run : List Pair) (last : Moment) (stop : Stop) → IsPlay command p run last (stopped stop) →
-      HasThreadCause (play_machine command p) (play_terms command).limits run stop
+      StopHasCause (play_machine command p) (play_terms command).limits run stop
   stop_has_cause run last (arena_full live asked) plays = meets_last run last (arena_full live asked) plays
   stop_has_cause run last (deques_full deques) plays = meets_last run last (deques_full deques) plays
   stop_has_cause run last (steps_spent limit) plays = spent run last limit plays
@@ -72,7 +72,7 @@ module _ (command : Command) (p : Program) (ranges : HasRanges command) where
       let is = plays_are_runs s some_quota listed limits words run last ending plays in
       let cause = endings_have_causes s some_quota listed limits words run last ending plays in record {
         reaches = is.0;
-        ended = λ finishes. subst (HasCause s limits words 0 opening run last) finishes cause;
+        ended = λ finishes. subst (PlayHasCause s limits words 0 opening run last) finishes cause;
         none_free = λ finishes. is.1;
         stopped_by = λ stop stops. stop_has_cause run last stop (subst (IsPlay command p run last) stops plays);
       }

@@ -13,12 +13,12 @@ use Rattle.par_ownership.specs.Accepted.{IsAccepted}
 use Rattle.par_text.specs.Judging.{IsText}
 use Rattle.par_tree.specs.Tree.{Program}
 use Rattle.serial_meaning.specs.Settings.{setting_of}
-use Rattle.trail_check.specs.Checking.{Checks}
+use Rattle.trail_check.specs.Checking.{ChecksTrail}
 use Rattle.trail_check.specs.declared.verify_fail.VerifyFail.{VerifyFail}
 use Rattle.trail_check.specs.declared.verify_fail.VerifyFail.TheVariants.{LongRun, BadEvent, NotEnded, WrongNumbers, OutOfMemory as NoRoom}
 use Rattle.trail_check.proofs.Outcomes as checks
 use Rattle.trail_meaning.specs.Ranges.{FitSetting}
-use Rattle.trail_meaning.specs.Shown.{Shown}
+use Rattle.trail_meaning.specs.Shown.{TrailShown}
 use Rattle.trail_text.specs.TrailText.{IsTrail}
 use Rattle.dfd_laws.specs.RecordedTrails.{IsOfPlay}
 use Rattle.dfd_laws.proofs.Accepted as laws
@@ -54,7 +54,7 @@ module _ (command : Command) (bytes trail : List ℕ) (ranges : HasRanges (recor
   verified : (run : List Pair) (last : Moment) → IsPlay command p run last finished → Records command bytes (play_setting command p) run last trail
       → (text : List ℕ) × VerifyGives trail Done text
   verified run last plays records =
-      let t : Shown = trail_of command bytes run last records.0 in
+      let t : TrailShown = trail_of command bytes run last records.0 in
       let o : IsOfPlay (setting_of p command.k) t = record {
         quota = refl;
         setting = fits;
@@ -100,8 +100,8 @@ done_or_refused : Done ≡ TrailRefused → ⊥
 done_or_refused same = omega (arith, ap code_of same)
 
 -- a trail of which is told that it is accepted has such an answer
-accepted_answer : (t : Shown) (p : Program) (text : List ℕ) (answer : Result ℕ VerifyFail) → Checks (setting_of p t.k) t answer → TellsCheck t answer Done text
-    → (actions : ℕ) × Checks (setting_of p t.k) t (Ok actions)
+accepted_answer : (t : TrailShown) (p : Program) (text : List ℕ) (answer : Result ℕ VerifyFail) → ChecksTrail (setting_of p t.k) t answer → TellsCheck t answer Done text
+    → (actions : ℕ) × ChecksTrail (setting_of p t.k) t (Ok actions)
 accepted_answer t p text (Ok actions) is told = (actions, is)
 accepted_answer t p text (Err (LongRun limit)) is told = absurd (done_or_refused told.0)
 accepted_answer t p text (Err (BadEvent event)) is told = absurd (done_or_refused told.0)

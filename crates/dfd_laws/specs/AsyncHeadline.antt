@@ -11,11 +11,11 @@ use Rattle.deque_machine.specs.Books.{IsPrefix, periods_ahead, periods_marked, b
 use Rattle.deque_machine.specs.Lists.{total}
 use Rattle.par_ownership.specs.Accepted.{IsAccepted}
 use Rattle.par_tree.specs.Tree.{Program}
-use Rattle.ready_machine.specs.PlayLaws.{CoversNext}
+use Rattle.ready_machine.specs.PlayLaws.{ReadyCoversNext}
 use Rattle.ready_machine.specs.ReadyFronts.{ReadyPlaysOn}
 use Rattle.ready_machine.specs.ReadyMachine.{MayReady, ReadyReaches}
 use Rattle.ready_machine.specs.ReadyPlay.{ReadyTurn}
-use Rattle.run_report.specs.Shown.{Shown}
+use Rattle.run_report.specs.Shown.{ReportShown}
 use Rattle.dfd_plays.specs.Answer.{HasRanges}
 use Rattle.dfd_plays.specs.Async.{IsAsyncPlay, AsyncMakes, async_terms, async_machine}
 use Rattle.dfd_plays.specs.Peak.{finish_status}
@@ -53,7 +53,7 @@ AsyncArenasStopLate = (command : Command) (p : Program) → HasRanges command �
 
 -- and one with room for all words, or for the bound after the next action, stops none
 abbrev pub AsyncArenasSuffice : Type 0
-AsyncArenasSuffice = OfEach IsAsyncPlay (LastsInArena CoversNext)
+AsyncArenasSuffice = OfEach IsAsyncPlay (LastsInArena ReadyCoversNext)
 
 -- with as many actions as the list has, their limit stops no play
 abbrev pub AsyncActionsSuffice : Type 0
@@ -89,7 +89,7 @@ AsyncOfOneStaysLow = (command : Command) (p : Program) → HasRanges command →
 
 -- The text is a report with the lines and the finish of the depth-first run, no period counted as ahead, and the depth-first peak as the
 -- high-water mark.
-pub record IsLowReport (command : Command) (p : Program) (text : List ℕ) (shown : Shown) : Type 0 where
+pub record IsLowReport (command : Command) (p : Program) (text : List ℕ) (shown : ReportShown) : Type 0 where
   pub report : IsBoundedReport command p text shown
   pub none_ahead : shown.ahead ≡ 0
   pub high : pos shown.high ≡ peak (play_list command p)
@@ -98,7 +98,7 @@ pub record IsLowReport (command : Command) (p : Program) (text : List ℕ) (show
 abbrev pub AsyncOfOneReportsThePeak : Type 0
 AsyncOfOneReportsThePeak = (command : Command) (p : Program) → HasRanges command → IsAccepted p → command.p ≡ 1
     → (status : Status) (text : List ℕ) → AsyncMakes command p status text → (status ≡ Done) ⊎ (status ≡ UserFault)
-    → ∥ ((shown : Shown) × IsLowReport command p text shown) ∥₁
+    → ∥ ((shown : ReportShown) × IsLowReport command p text shown) ∥₁
 
 -- And an arena with room for the depth-first peak stops no play of one worker.
 abbrev pub AsyncOfOneLastsAtThePeak : Type 0

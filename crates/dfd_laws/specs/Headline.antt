@@ -14,7 +14,7 @@ use Rattle.deque_machine.specs.Books.{IsPrefix, periods_ahead, periods_marked, b
 use Rattle.deque_machine.specs.Lists.{total}
 use Rattle.par_ownership.specs.Accepted.{IsAccepted}
 use Rattle.par_tree.specs.Tree.{Program}
-use Rattle.run_report.specs.Shown.{Shown}
+use Rattle.run_report.specs.Shown.{ReportShown}
 use Rattle.run_report.specs.Texts.{report_text, summary_text}
 use Rattle.run_report.specs.declared.summary.Summary.{Summary}
 use Rattle.dfd_plays.specs.Answer.{HasRanges}
@@ -52,7 +52,7 @@ MomentsAreBounded = (command : Command) (p : Program) → HasRanges command → 
 
 -- The text is a report with the lines and the finish of the depth-first run, and with a high-water mark of at most the peak and two quotas
 -- for each marked period.
-pub record IsBoundedReport (command : Command) (p : Program) (text : List ℕ) (shown : Shown) : Type 0 where
+pub record IsBoundedReport (command : Command) (p : Program) (text : List ℕ) (shown : ReportShown) : Type 0 where
   pub is : text ≡ report_text shown
   pub lines : shown.lines ≡ lines_of (whole (play_setting command p)).items
   pub finish : shown.finish ≡ finish_of_run (play_setting command p)
@@ -62,7 +62,7 @@ pub record IsBoundedReport (command : Command) (p : Program) (text : List ℕ) (
 abbrev pub ReportsAreBounded : (makes : Command → Program → Status → List ℕ → Type 0) → Type 0
 ReportsAreBounded makes = (command : Command) (p : Program) → HasRanges command → IsAccepted p
     → (status : Status) (text : List ℕ) → makes command p status text → (status ≡ Done) ⊎ (status ≡ UserFault)
-    → (status ≡ finish_status (finish_of_run (play_setting command p))) × ∥ ((shown : Shown) × IsBoundedReport command p text shown) ∥₁
+    → (status ≡ finish_status (finish_of_run (play_setting command p))) × ∥ ((shown : ReportShown) × IsBoundedReport command p text shown) ∥₁
 
 -- The text is a summary with a high-water mark of at most the peak and two quotas for each marked period.
 pub record IsBoundedSummary (command : Command) (p : Program) (text : List ℕ) (shown : Summary) : Type 0 where
@@ -128,8 +128,8 @@ pub record HasShortPlays (IsRun : Command → Program → List Pair → Moment �
 abbrev pub AllEnd : (IsRun : Command → Program → List Pair → Moment → Ending → Type 0) → Type 0
 AllEnd IsRun = (command : Command) (p : Program) → HasRanges command → IsAccepted p → HasShortPlays IsRun command p
 
-abbrev pub PlaysEnd : Type 0
-PlaysEnd = AllEnd IsPlay
+abbrev pub AllPlaysEnd : Type 0
+AllPlaysEnd = AllEnd IsPlay
 
 -- The arena stops no play where it has room for all words that the depth-first list takes, or where at the last moment it has room for the
 -- peak and two quotas for each period ahead, with the next Alloc or Fork counted, as `Covers` says.
@@ -146,16 +146,16 @@ abbrev pub LastsInActions : Command → Program → Moment → Ending → Type 0
 LastsInActions command p last ending =
     length (play_list command p) ≤ command.steps → (limit : ℕ) → ending ≢ stopped (steps_spent limit)
 
-abbrev pub ActionsSuffice : Type 0
-ActionsSuffice = OfEach IsPlay LastsInActions
+abbrev pub PlayActionsSuffice : Type 0
+PlayActionsSuffice = OfEach IsPlay LastsInActions
 
 -- and with more deques than the list has Forks, their limit stops none
 abbrev pub LastsInDeques : Command → Program → Moment → Ending → Type 0
 LastsInDeques command p last ending =
     total one_if_fork (play_list command p) < command.deques → (deques : ℕ) → ending ≢ stopped (deques_full deques)
 
-abbrev pub DequesSuffice : Type 0
-DequesSuffice = OfEach IsPlay LastsInDeques
+abbrev pub PlayDequesSuffice : Type 0
+PlayDequesSuffice = OfEach IsPlay LastsInDeques
 
 -- With room for all words and all actions, what is made of a program is that it ended well, or with its fault, or at the limit of deques.
 abbrev pub StatusesWithRoom : (makes : Command → Program → Status → List ℕ → Type 0) → Type 0

@@ -10,7 +10,7 @@ use Rattle.par_text.specs.Judging.{IsText}
 use Rattle.par_tree.specs.Tree.{Program}
 use Rattle.serial_meaning.specs.Settings.{setting_of}
 use Rattle.trail_check.specs.CheckLaws.{IsBounded}
-use Rattle.trail_meaning.specs.Shown.{Shown}
+use Rattle.trail_meaning.specs.Shown.{TrailShown}
 use Rattle.trail_text.specs.TrailText.{IsTrail}
 use Rattle.dfd_plays.specs.declared.status.Status.{Status}
 use Rattle.dfd_plays.specs.declared.status.Status.TheVariants.{Done, UserFault}
@@ -45,4 +45,4 @@ RecordedTrailsAreAccepted = (command : Command) (bytes trail : List ℕ) (status
 -- what `verify` accepts is a trail, of an accepted program, and the bound holds after each of its events
 abbrev pub VerifiedTrailsAreBounded : Type 0
 VerifiedTrailsAreBounded = (command : Command) (bytes text : List ℕ) → BytesGive (record command { kind = Verify }) bytes Done text
-    → (t : Shown) × (p : Program) × IsTrail bytes t × IsText t.source p × IsAccepted p × IsBounded (setting_of p t.k) t
+    → (t : TrailShown) × (p : Program) × IsTrail bytes t × IsText t.source p × IsAccepted p × IsBounded (setting_of p t.k) t

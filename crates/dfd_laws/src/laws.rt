@@ -2,7 +2,7 @@ ghost use Rattle.dfd_plays.specs.Async.{AsyncMakes};
 ghost use Rattle.dfd_plays.specs.Play.{PlayMakes};
 ghost use Rattle.dfd_plays.specs.Threads.{RunMakes};
 ghost use Rattle.dfd_laws.specs.AsyncHeadline.{AsyncActionsSuffice, AsyncArenasStopLate, AsyncArenasSuffice, AsyncListsNeverFill, AsyncMomentsAreBounded, AsyncOfOneLastsAtThePeak, AsyncOfOneReportsThePeak, AsyncOfOneStaysLow, AsyncPlaysEnd, AsyncPlaysWithRoomFinish, AsyncStatusesWithRoom};
-ghost use Rattle.dfd_laws.specs.Headline.{ActionsSuffice, ArenasStopLate, ArenasSuffice, DequesSuffice, MomentsAreBounded, PlaysEnd, PlaysWithRoomFinish, ReportsAreBounded, StatusesWithRoom, SummariesAreBounded};
+ghost use Rattle.dfd_laws.specs.Headline.{PlayActionsSuffice, ArenasStopLate, ArenasSuffice, PlayDequesSuffice, MomentsAreBounded, AllPlaysEnd, PlaysWithRoomFinish, ReportsAreBounded, StatusesWithRoom, SummariesAreBounded};
 ghost use Rattle.dfd_laws.specs.RunHeadline.{RunArenasStopLate, RunArenasSuffice, RunDequesSuffice, RunMomentsAreBounded};
 ghost use Rattle.dfd_laws.specs.Laws.{VerifiedTrailsAreBounded, CommandsHaveAnAnswer, CommandsHaveRanges, LoopsArePlays, CommandsHaveOneAnswer, RecordedTrailsAreAccepted};
 
@@ -94,12 +94,12 @@ pub fn arenas_suffice()
 
 /// With as many actions as the depth-first run has, their limit stops no play.
 pub fn actions_suffice()
-    ensures { ActionsSuffice }
+    ensures { PlayActionsSuffice }
 {}
 
 /// With more deques than the depth-first run has forks, their limit stops no play.
 pub fn deques_suffice()
-    ensures { DequesSuffice }
+    ensures { PlayDequesSuffice }
 {}
 
 /// With room for all words that the depth-first run takes, for its actions and for a deque a fork, a play finishes.
@@ -116,7 +116,7 @@ pub fn statuses_with_room()
 /// Each command and program have a play, and it ends, after at most three events for each action of the depth-first run and one for each
 /// worker.
 pub fn plays_end()
-    ensures { PlaysEnd }
+    ensures { AllPlaysEnd }
 {}
 
 /// At each moment of each play of `async` the words in use are at most the depth-first peak, and two quotas for each period that by then

@@ -30,7 +30,7 @@ use Rattle.dfd_plays.specs.Threads.{IsRunByThreads, RunMakes}
 use Rattle.dfd_plays.specs.Trails.{TellsCheck, VerifyMakes, VerifyGives, Records}
 use Rattle.trail_check.specs.declared.verify_fail.VerifyFail.{VerifyFail}
 use Rattle.trail_check.specs.declared.verify_fail.VerifyFail.TheVariants.{LongRun, BadEvent, NotEnded, WrongNumbers, OutOfMemory as NoMemory}
-use Rattle.trail_meaning.specs.Shown.{Shown}
+use Rattle.trail_meaning.specs.Shown.{TrailShown}
 use Rattle.dfd_plays.specs.Answer.{most_read, CheckMakes, KindGives, BytesGive, ReadGives, KindAnswers, CommandGives, CallGives, Ends}
 use Rattle.dfd_plays.specs.Sources.{RefusalGives, SourceGives}
 use Rattle.byte_streams.specs.Sink.{Takes}
@@ -190,7 +190,7 @@ not_of_an_expansion makes text status none not (Ok expanded) gives = not expande
 not_of_an_expansion makes text status none not (Err fail) gives = subst IsOfNoBytes gives.0 none
 
 -- nor one that is told of a trail
-not_of_a_verdict : (t : Shown) (text : List ℕ) (status : Status) → IsOfNoBytes status → (answer : Result ℕ VerifyFail) → ¬ TellsCheck t answer status text
+not_of_a_verdict : (t : TrailShown) (text : List ℕ) (status : Status) → IsOfNoBytes status → (answer : Result ℕ VerifyFail) → ¬ TellsCheck t answer status text
 not_of_a_verdict t text status none (Ok actions) told = subst IsOfNoBytes told.0 none
 not_of_a_verdict t text status none (Err (LongRun limit)) told = subst IsOfNoBytes told.0 none
 not_of_a_verdict t text status none (Err (BadEvent event)) told = subst IsOfNoBytes told.0 none

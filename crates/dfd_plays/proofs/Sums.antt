@@ -11,7 +11,7 @@ use Rattle.par_text.specs.Rule.{Token}
 use Rattle.par_text.specs.declared.syntax_error.SyntaxError.{SyntaxError}
 use Rattle.par_text.specs.declared.syntax_error.SyntaxKind.TheVariants.{TooLong}
 use Rattle.par_tree.specs.Tree.{Program}
-use Rattle.dfd_plays.specs.Make.{added, sum_of}
+use Rattle.dfd_plays.specs.Make.{sum_with, sum_of}
 
 abbrev IsOk : Lexed → Type 0
 IsOk (Ok ts) = Unit {0}
@@ -31,11 +31,11 @@ short_text text p is = go (nat_lt longest_text (length text)) refl is.lexed
     go true h e = absurd (never _ is.tokens e)
     go false h e = ltb-false longest_text (length text) h
 
--- one number more is added
+-- one number more is sum_with
 pub one_more : (sum i : ℕ) (numbers : List ℤ) → Fits w64 sum → i < length numbers →
-    added (to_z w64 sum) (drop i numbers) ≡ sum_of numbers →
-    added (to_z w64 ((sum + of_z w64 (get_or numbers i (pos 0))) % 18446744073709551616)) (drop (i + 1) numbers) ≡ sum_of numbers
+    sum_with (to_z w64 sum) (drop i numbers) ≡ sum_of numbers →
+    sum_with (to_z w64 ((sum + of_z w64 (get_or numbers i (pos 0))) % 18446744073709551616)) (drop (i + 1) numbers) ≡ sum_of numbers
 one_more sum i numbers fits inside so_far =
-    ap (λ (n : ℕ). added (to_z w64 ((n + of_z w64 (get_or numbers i (pos 0))) % 18446744073709551616)) (drop (i + 1) numbers)) (sym (of_z-to_z fits))
-    ∙ ap (λ (l : List ℤ). added (to_z w64 sum) l) (sym (drop_more numbers i (pos 0) inside))
+    ap (λ (n : ℕ). sum_with (to_z w64 ((n + of_z w64 (get_or numbers i (pos 0))) % 18446744073709551616)) (drop (i + 1) numbers)) (sym (of_z-to_z fits))
+    ∙ ap (λ (l : List ℤ). sum_with (to_z w64 sum) l) (sym (drop_more numbers i (pos 0) inside))
     ∙ so_far

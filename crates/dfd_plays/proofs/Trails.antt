@@ -14,14 +14,14 @@ use Rattle.deque_machine.specs.Terms.{Terms}
 use Rattle.trail_record.specs.Passed.Cores.{IsAt, end_of}
 use Rattle.trail_record.specs.Passed.Core.{Core}
 use Rattle.play_rules.specs.declared.ends.RunEnd.TheVariants.{Finished, Stopped}
-use Rattle.trail_check.specs.Told.{events_told}
+use Rattle.trail_check.specs.Told.{events_in_trail}
 use Rattle.par_ownership.specs.Ownership.{Ownership}
 use Rattle.par_ownership.proofs.Law.{tells_program}
 use Rattle.par_text.specs.Judging.{IsText}
 use Rattle.par_tree.specs.Tree.{Program}
 use Rattle.trail_check.specs.declared.verify_fail.VerifyFail.{VerifyFail}
 use Rattle.trail_check.specs.declared.verify_fail.VerifyFail.TheVariants.{LongRun, BadEvent, NotEnded, WrongNumbers, OutOfMemory as NoRoom}
-use Rattle.trail_meaning.specs.Shown.{Shown}
+use Rattle.trail_meaning.specs.Shown.{TrailShown}
 use Rattle.trail_meaning.specs.declared.trail_event.TrailEvent.{TrailEvent}
 use Rattle.dfd_plays.specs.CorePlays.{Played, PlayedAs}
 use Rattle.dfd_plays.specs.Peak.{finish_status}
@@ -34,7 +34,7 @@ use Rattle.dfd_plays.specs.declared.status.Status.TheVariants.{Done, Usage, Read
 pub recorded_makes : (command : Command) (bytes : List ℕ) (p : Program) (after : Core) (finish : Finish) (events : List TrailEvent) (status : Status)
     (text : List ℕ) → PlayedAs (play_setting command p) (play_terms command) (seeded_words command.seed) after (Finished finish) events
     → end_of after ≡ Some (Finished finish) → status ≡ finish_status finish
-    → ((c : Setting) (run : List Pair) (m : Moment) → IsAt c after run m → events ≡ events_told run → Records command bytes c run m text)
+    → ((c : Setting) (run : List Pair) (m : Moment) → IsAt c after run m → events ≡ events_in_trail run → Records command bytes c run m text)
     → TellsPlay (Records command bytes) command p status text
 recorded_makes command bytes p after finish events status text plays end is records = ∥∥₁_map plays.1 (λ w. (
   w.0.later,
@@ -58,7 +58,7 @@ HasAnswer Syntax = ⊥
 HasAnswer Check = ⊥
 HasAnswer other = Unit {0}
 
-told_status : (t : Shown) (answer : Result ℕ VerifyFail) (status : Status) (text : List ℕ) → TellsCheck t answer status text → HasAnswer status
+told_status : (t : TrailShown) (answer : Result ℕ VerifyFail) (status : Status) (text : List ℕ) → TellsCheck t answer status text → HasAnswer status
 unfolding HasAnswer
 told_status t (Ok actions) status text told = subst HasAnswer (sym told.0) tt
 told_status t (Err (LongRun limit)) status text told = subst HasAnswer (sym told.0) tt
@@ -68,7 +68,7 @@ told_status t (Err (WrongNumbers numbers)) status text told = subst HasAnswer (s
 told_status t (Err NoRoom) status text told = absurd told
 
 -- what is made of a trail and the program of its source is made of the trail
-pub source_of_trail : (t : Shown) (p : Program) (status : Status) (text : List ℕ) → IsText t.source p → Ownership p → VerifyMakes t p status text
+pub source_of_trail : (t : TrailShown) (p : Program) (status : Status) (text : List ℕ) → IsText t.source p → Ownership p → VerifyMakes t p status text
     → SourceGives (VerifyMakes t) t.source status text
 unfolding HasAnswer
 source_of_trail t p Done text is own makes = (p, (is, ((tells_program p).complete own, makes)))

@@ -13,13 +13,13 @@ use Rattle.run_report.specs.Texts.{summary_text}
 use Rattle.dfd_plays.specs.Play.{TellsPlay}
 use Rattle.dfd_plays.specs.declared.status.Status.{Status}
 
--- numbers added up, one after the other, to a sum that wraps at 64 bits, as `+` does in the language
-abbrev pub added : (sum : ℤ) → List ℤ → ℤ
-added sum [] = sum
-added sum (n ∷ later) = added (int_wrapping_add w64 sum n) later
+-- numbers sum_with up, one after the other, to a sum that wraps at 64 bits, as `+` does in the language
+abbrev pub sum_with : (sum : ℤ) → List ℤ → ℤ
+sum_with sum [] = sum
+sum_with sum (n ∷ later) = sum_with (int_wrapping_add w64 sum n) later
 
 abbrev pub sum_of : List ℤ → ℤ
-sum_of numbers = added (pos 0) numbers
+sum_of numbers = sum_with (pos 0) numbers
 
 -- The summary of a run with this last moment, of a program in so many bytes: how many numbers the depth-first run prints and their sum, which
 -- wraps at 64 bits, how many actions were done, how many periods were begun and how many of them were marked ahead, and the high-water

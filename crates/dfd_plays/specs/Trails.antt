@@ -5,14 +5,14 @@ use Rattle.depth_first_run.specs.States.{Setting}
 use Rattle.depth_first_run.specs.Run.{list_of}
 use Rattle.deque_machine.specs.Moments.{Moment}
 use Rattle.deque_machine.specs.Runs.{Pair, high_water_mark}
-use Rattle.trail_check.specs.Told.{events_told}
+use Rattle.trail_check.specs.Told.{events_in_trail}
 use Rattle.deque_machine.specs.Books.{periods_marked}
 use Rattle.par_tree.specs.Tree.{Program}
 use Rattle.serial_meaning.specs.Settings.{setting_of}
-use Rattle.trail_meaning.specs.Shown.{Shown}
+use Rattle.trail_meaning.specs.Shown.{TrailShown}
 use Rattle.trail_text.specs.Reading.{IsRefused}
 use Rattle.trail_text.specs.TrailText.{IsTrail, trail_text}
-use Rattle.trail_check.specs.Checking.{Checks}
+use Rattle.trail_check.specs.Checking.{ChecksTrail}
 use Rattle.trail_check.specs.declared.verify_fail.VerifyFail.{VerifyFail}
 use Rattle.trail_check.specs.declared.verify_fail.VerifyFail.TheVariants.{LongRun, BadEvent, NotEnded, WrongNumbers, OutOfMemory}
 use Rattle.dfd_plays.specs.Play.{TellsPlay}
@@ -23,7 +23,7 @@ use Rattle.dfd_plays.specs.declared.status.Status.TheVariants.{Done, TrailRefuse
 
 -- The trail of a run with this last moment, of the program in these bytes: the numbers of the command, the bytes, the events of the run, how
 -- many periods were begun and how many of them were marked ahead, and the high-water mark.
-abbrev pub trail_of : Command → (bytes : List ℕ) → List Pair → Moment → (high : ℕ) → Shown
+abbrev pub trail_of : Command → (bytes : List ℕ) → List Pair → Moment → (high : ℕ) → TrailShown
 trail_of command bytes run last high = record {
   k = command.k;
   p = command.p;
@@ -31,7 +31,7 @@ trail_of command bytes run last high = record {
   steps = command.steps;
   deques = command.deques;
   source = bytes;
-  events = events_told run;
+  events = events_in_trail run;
   numbers = record { periods = length last.books; ahead = periods_marked last.books; high = high };
 }
 
@@ -44,7 +44,7 @@ abbrev pub TrailMakes : Command → (bytes : List ℕ) → Program → Status �
 TrailMakes command bytes = TellsPlay (Records command bytes) command
 
 -- what is told of the answer to a trail: that it is accepted, or why it is refused; want of memory is no answer
-abbrev pub TellsCheck : Shown → Result ℕ VerifyFail → Status → List ℕ → Type 0
+abbrev pub TellsCheck : TrailShown → Result ℕ VerifyFail → Status → List ℕ → Type 0
 TellsCheck t (Ok actions) status text = (status ≡ Done) × (text ≡ trail_ok_text t.numbers actions)
 TellsCheck t (Err (LongRun limit)) status text = (status ≡ TrailRefused) × (text ≡ long_run_text limit)
 TellsCheck t (Err (BadEvent event)) status text = (status ≡ TrailRefused) × (text ≡ bad_event_text event)
@@ -53,8 +53,8 @@ TellsCheck t (Err (WrongNumbers numbers)) status text = (status ≡ TrailRefused
 TellsCheck t (Err OutOfMemory) status text = ⊥
 
 -- what `verify` makes of a trail and the program of its source
-abbrev pub VerifyMakes : Shown → Program → Status → List ℕ → Type 0
-VerifyMakes t p status text = (answer : Result ℕ VerifyFail) × (Checks (setting_of p t.k) t answer × TellsCheck t answer status text)
+abbrev pub VerifyMakes : TrailShown → Program → Status → List ℕ → Type 0
+VerifyMakes t p status text = (answer : Result ℕ VerifyFail) × (ChecksTrail (setting_of p t.k) t answer × TellsCheck t answer status text)
 
 -- the bytes are no trail, and the line says where
 abbrev pub NoTrailGives : List ℕ → Status → List ℕ → Type 0
@@ -62,7 +62,7 @@ NoTrailGives bytes status text = (at : ℕ) × (IsRefused bytes at × ((status �
 
 -- the bytes are a trail, and this is what `verify` makes of it, or the refusal of its source
 abbrev pub OfTrail : List ℕ → Status → List ℕ → Type 0
-OfTrail bytes status text = (t : Shown) × (IsTrail bytes t × SourceGives (VerifyMakes t) t.source status text)
+OfTrail bytes status text = (t : TrailShown) × (IsTrail bytes t × SourceGives (VerifyMakes t) t.source status text)
 
 -- what `verify` makes of bytes
 abbrev pub VerifyGives : List ℕ → Status → List ℕ → Type 0

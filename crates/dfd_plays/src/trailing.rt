@@ -7,7 +7,7 @@ ghost use Rattle.deque_machine.specs.Runs.{Pair};
 ghost use Rattle.deque_machine.specs.Terms.{machine_of};
 ghost use Rattle.trail_record.specs.Passed.Cores.{IsAt, end_of, terms_at};
 ghost use Rattle.play_rules.specs.declared.ends.RunEnd.TheVariants.{Finished};
-ghost use Rattle.trail_check.specs.Told.{events_told};
+ghost use Rattle.trail_check.specs.Told.{events_in_trail};
 ghost use Rattle.trail_check.specs.Verdicts.{AreNumbers};
 ghost use Rattle.par_ownership.specs.Ownership.{Ownership};
 ghost use Rattle.par_tree.specs.View.{program_tree};
@@ -52,7 +52,7 @@ fn trail_answer(
     requires { end_of core.now ≡ Some (Finished finish) }
     ensures status { IfOk result (λ answer. answer.status ≡ finish_status finish) }
     ensures text { IfOk result (λ answer. (c : Setting) (run : AnyList Pair) (m : Moment) → IsAt c core.now run m
-        → entries events ≡ events_told run → Records command.now bytes.now c run m answer.text.items) }
+        → entries events ≡ events_in_trail run → Records command.now bytes.now c run m answer.text.items) }
 {
     let trail = Trail {
         k: command.k,

@@ -9,7 +9,7 @@ use Rattle.open_periods.proofs.Lists.{set_same}
 use Rattle.hall_machine.specs.Values.{Hall, Stop}
 use Rattle.hall_machine.specs.Steps.{Step, Leads}
 use Rattle.hall_machine.specs.Views.{View}
-use Rattle.hall_machine.specs.Crew.{Crew, HasCause}
+use Rattle.hall_machine.specs.Crew.{Crew, HasCauseAmong}
 use Rattle.hall_machine.specs.Seats.{finding, end_with}
 use Rattle.hall_machine.proofs.Noting.{crews_stand}
 use Rattle.hall_machine.proofs.Halting.{finding_keeps_crew, stops_are_kept, answers_keep_crew}
@@ -30,7 +30,7 @@ module _ (s : Setting) (some : 0 < s.quota) (list : IsDepthFirst s.quota s.list)
       full_lists_go_on s some list limits h events m leads count views seat v word place victim state here idle none first is stays full
 
   -- it has its cause
-  cause_of : (stop : Stop) → v.counting ≡ false → v.found ≡ None → MayFind s limits h v stop → HasCause s limits events m leads stop
+  cause_of : (stop : Stop) → v.counting ≡ false → v.found ≡ None → MayFind s limits h v stop → HasCauseAmong s limits events m leads stop
   cause_of stop free none may =
       ((finding_goes_on stop free none may).seats seat (finding v stop) (set_same views seat (finding v stop) v here.noted) here.placed).found stop refl
 

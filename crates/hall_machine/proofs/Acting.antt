@@ -22,7 +22,7 @@ use Rattle.hall_machine.specs.Standing.{Went}
 use Rattle.hall_machine.specs.Writing.{place_of}
 use Rattle.hall_machine.proofs.Going.{if_same_is, if_same_other}
 use Rattle.hall_machine.specs.Views.{View, in_hall, one_if_in, one_if_its, stands_for, workers_of, places_held, one_if_counting, one_if_late, event_told, events_told}
-use Rattle.hall_machine.specs.Crew.{HasCause, MayBeKept, SeatStands, Crew, missing}
+use Rattle.hall_machine.specs.Crew.{HasCauseAmong, MayBeKept, SeatStands, Crew, missing}
 use Rattle.hall_machine.specs.Changes.{after_event, ChangesOwn, EventsKeepCrew}
 use Rattle.hall_machine.proofs.First.{is_in}
 use Rattle.hall_machine.proofs.Notes.{total_set, total_at, total_two, each_set, each_get, each_unset, get_inside}
@@ -43,7 +43,7 @@ events_append (told ∷ mine) more = ap (λ t. event_told told ++ t) (events_app
 
 -- a cause stays one
 cause_stays : (s : Setting) (limits : Limits) (steps : List Step) (m : Moment) (leads : Leads s steps m) (step : Step) (next : Moment) (on : Leads s (step ∷ steps) next)
-    → on.0 ≡ m → (stop : Stop) → HasCause s limits steps on.0 on.1 stop → HasCause s limits (step ∷ steps) next on stop
+    → on.0 ≡ m → (stop : Stop) → HasCauseAmong s limits steps on.0 on.1 stop → HasCauseAmong s limits (step ∷ steps) next on stop
 cause_stays s limits steps m leads step next on same no_memory cause = tt
 cause_stays s limits steps m leads step next on same (by_rule (play.arena_full live asked)) cause = inr cause
 cause_stays s limits steps m leads step next on same (by_rule (play.deques_full deques)) cause = inr cause

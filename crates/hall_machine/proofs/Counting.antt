@@ -15,7 +15,7 @@ use Rattle.moment_laws.proofs.Passed.Lists.{set_same, set_other}
 use Rattle.hall_machine.specs.Values.{Hall, Stop, by_rule}
 use Rattle.hall_machine.specs.Steps.{Step, Leads}
 use Rattle.hall_machine.specs.Views.{View, joined, in_hall, one_if_in, stands_for, workers_of, places_held, one_if_counting, by_the_limit, one_if_late}
-use Rattle.hall_machine.specs.Crew.{HasCause, SeatStands, Crew, missing}
+use Rattle.hall_machine.specs.Crew.{HasCauseAmong, SeatStands, Crew, missing}
 use Rattle.hall_machine.specs.Changes.{CountsKeepCrew, SpentCountsKeepCrew}
 use Rattle.hall_machine.proofs.First.{is_in}
 use Rattle.hall_machine.proofs.Notes.{total_set, each_set, each_unset}
@@ -40,7 +40,7 @@ module _ (s : Setting) (limits : Limits) (h : Hall) (steps : List Step) (m : Mom
 
   noted_crew : (now : ℕ) → min now limits.actions ≡ length (booked m.books) + total one_if_counting views_now
       → now ≤ limits.actions + (total one_if_late views_now + missing h.list.kept s.workers (length h.list.crew))
-      → (counting ≡ true → ((id : DequeId) × (v.deque ≡ Some id)) × (found ≡ None)) → ((stop : Stop) → found ≡ Some stop → HasCause s limits steps m leads stop)
+      → (counting ≡ true → ((id : DequeId) × (v.deque ≡ Some id)) × (found ≡ None)) → ((stop : Stop) → found ≡ Some stop → HasCauseAmong s limits steps m leads stop)
       → Crew s limits h steps m leads now views_now
   noted_crew now counted above counts causes = record {
     places = same_total places_held refl ∙ crew.places;
@@ -94,7 +94,7 @@ pub spent_counts_keep_crew : (s : Setting) → SpentCountsKeepCrew s
 spent_counts_keep_crew s limits h steps m leads count views seat v crew its_view placed here none_yet no_stop spent more =
     noted_crew s limits h steps m leads count views seat v crew its_view placed v.counting (Some (by_rule (play.steps_spent limits.actions))) (suc count) counted above
     (λ holds. absurd (Rattle.std.proofs.Common.true≢false (sym holds ∙ none_yet)))
-    (λ stop is. subst (HasCause s limits steps m leads) (same_Some (by_rule (play.steps_spent limits.actions)) stop is) (refl, more))
+    (λ stop is. subst (HasCauseAmong s limits steps m leads) (same_Some (by_rule (play.steps_spent limits.actions)) stop is) (refl, more))
   where
     counted : min (suc count) limits.actions ≡ length (booked m.books) + total one_if_counting (slice_set views seat (noting v v.counting (Some (by_rule (play.steps_spent limits.actions)))))
     counted =

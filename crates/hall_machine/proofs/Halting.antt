@@ -10,7 +10,7 @@ use Rattle.hall_machine.specs.Values.{Hall, Stop, End}
 use Rattle.hall_machine.specs.Steps.{Step, Told, Leads, halted}
 use Rattle.hall_machine.specs.Writing.{place_of}
 use Rattle.hall_machine.specs.Views.{View, one_if_in, by_the_limit, one_if_late, events_told}
-use Rattle.hall_machine.specs.Crew.{HasCause, MayBeKept, SeatStands, Crew, missing}
+use Rattle.hall_machine.specs.Crew.{HasCauseAmong, MayBeKept, SeatStands, Crew, missing}
 use Rattle.hall_machine.specs.Seats.{with_crew, QuietPutsKeepCrew, finding, FindingKeepsCrew, end_with, StopsAreKept, EndsAreKept, AnswersKeepCrew}
 use Rattle.hall_machine.proofs.First.{none_is}
 use Rattle.hall_machine.proofs.Acting.{events_append}
@@ -43,7 +43,7 @@ finding_keeps_crew s limits h steps m leads count views seat v stop crew its_vie
       runs = stood.runs;
       counts = λ counting. absurd (true≢false (sym counting ∙ free));
       enters = stood.enters;
-      found = λ other is. subst (HasCause s limits steps m leads) (same_Some stop other is) cause;
+      found = λ other is. subst (HasCauseAmong s limits steps m leads) (same_Some stop other is) cause;
       answered = stood.answered;
     }
 

@@ -17,7 +17,7 @@ use Rattle.hall_machine.specs.Values.{ListShown, Hall, End, finished, stopped, S
 use Rattle.hall_machine.specs.Steps.{Step, Leads, run_of}
 use Rattle.hall_machine.specs.Rows.{IsFirst}
 use Rattle.hall_machine.specs.Views.{View, fresh, joined}
-use Rattle.hall_machine.specs.Crew.{HasCause}
+use Rattle.hall_machine.specs.Crew.{HasCauseAmong}
 use Rattle.hall_machine.specs.State.{RunningState, IsIn, HallLaw}
 
 -- the law holds where a hall begins, with one seat that has all places
@@ -59,7 +59,7 @@ pub record GivesOneRun (s : Setting) (limits : Limits) (h : Hall) (steps : List 
   pub reaches : Reaches s opening (run_of steps) m
   pub books : Tell s.quota s.list h.list.closed m.books
   pub moved : AreMovesOf h.list.closed h.pool.moves (moves s.list (run_of steps))
-  pub stopped_by : (stop : Stop) → end ≡ stopped stop → HasCause s limits steps m leads stop
+  pub stopped_by : (stop : Stop) → end ≡ stopped stop → HasCauseAmong s limits steps m leads stop
   pub all_done : end ≡ finished → (place : ℕ) → place < length s.list → done_at m place ≡ 1
   pub root_kept : end ≡ finished → IsKept h.list.results root
   pub none_left : end ≡ finished → h.list.places ≡ []

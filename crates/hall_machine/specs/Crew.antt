@@ -16,16 +16,16 @@ use Rattle.hall_machine.specs.Views.{View, joined, stands_for, workers_of, place
 
 -- A stop has its cause among these steps: that of the arena or of the deques an event that the rules wanted at some moment of them, that of the
 -- limit a list with more actions. Want of memory needs none.
-abbrev pub HasCause : (s : Setting) → Limits → (steps : List Step) (m : Moment) → Leads s steps m → Stop → Type 0
-HasCause s limits steps m leads no_memory = Unit {0}
-HasCause s limits steps m leads (by_rule (play.arena_full live asked)) = HasMet s limits steps m leads (play.arena_full live asked)
-HasCause s limits steps m leads (by_rule (play.deques_full deques)) = HasMet s limits steps m leads (play.deques_full deques)
-HasCause s limits steps m leads (by_rule (play.steps_spent limit)) = (limit ≡ limits.actions) × (limits.actions < length s.list)
+abbrev pub HasCauseAmong : (s : Setting) → Limits → (steps : List Step) (m : Moment) → Leads s steps m → Stop → Type 0
+HasCauseAmong s limits steps m leads no_memory = Unit {0}
+HasCauseAmong s limits steps m leads (by_rule (play.arena_full live asked)) = HasMet s limits steps m leads (play.arena_full live asked)
+HasCauseAmong s limits steps m leads (by_rule (play.deques_full deques)) = HasMet s limits steps m leads (play.deques_full deques)
+HasCauseAmong s limits steps m leads (by_rule (play.steps_spent limit)) = (limit ≡ limits.actions) × (limits.actions < length s.list)
 
 -- an end that may be kept: the root has ended and no deque is left, or a stop with its cause
 abbrev pub MayBeKept : (s : Setting) → Limits → (steps : List Step) (m : Moment) → Leads s steps m → List Place → End → Type 0
 MayBeKept s limits steps m leads places finished = HasEnded s m [] × (places ≡ [])
-MayBeKept s limits steps m leads places (stopped stop) = HasCause s limits steps m leads stop
+MayBeKept s limits steps m leads places (stopped stop) = HasCauseAmong s limits steps m leads stop
 
 -- how many workers are missing once an end is kept
 abbrev pub missing : Option End → (workers crew : ℕ) → ℕ
@@ -49,7 +49,7 @@ pub record SeatStands (s : Setting) (limits : Limits) (h : Hall) (steps : List S
   -- the worker for whom it enters owns no deque, and it has a place for it
   pub enters : (worker : ℕ) → v.enters ≡ Some worker → (2 ≤ v.places) × ((id : DequeId) → ¬ Among (place_of id (Some worker)) h.list.places)
   -- a stop that it found has its cause, and an end that it was answered is kept
-  pub found : (stop : Stop) → v.found ≡ Some stop → HasCause s limits steps m leads stop
+  pub found : (stop : Stop) → v.found ≡ Some stop → HasCauseAmong s limits steps m leads stop
   pub answered : (end : End) → v.answered ≡ Some end → h.list.kept ≡ Some end
 
 -- The law of the seats, the count word and the end, where a hall stands at a moment.

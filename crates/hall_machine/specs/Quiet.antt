@@ -13,7 +13,7 @@ use Rattle.hall_machine.specs.Steps.{Step, Leads, gave_up}
 use Rattle.hall_machine.specs.Standing.{HasLane}
 use Rattle.hall_machine.specs.Writing.{lane_with, IsAtWork, written, list_unowned, step_of}
 use Rattle.hall_machine.specs.Views.{View, fresh, joined}
-use Rattle.hall_machine.specs.Crew.{HasCause}
+use Rattle.hall_machine.specs.Crew.{HasCauseAmong}
 use Rattle.hall_machine.specs.Changes.{after_event}
 use Rattle.hall_machine.specs.Seats.{with_crew, LooksTheSame, entering, giving, finding, end_with, halted_with, leaving, with_places_of}
 use Rattle.hall_machine.specs.State.{RunningState, IsIn, GoesOn}
@@ -48,7 +48,7 @@ SplittingGoesOn s = (limits : Limits) (h : Hall) (steps : List Step) (m : Moment
 abbrev pub KeptStopsGoOn : Setting → Type 0
 KeptStopsGoOn s = (limits : Limits) (h : Hall) (steps : List Step) (m : Moment) (leads : Leads s steps m) (count : ℕ) (views : List View)
     (seat : ℕ) (v : View) (stop : Stop) → RunningState s limits h steps m leads count views → IsIn views seat v → v.counting ≡ false
-    → v.found ≡ None → HasCause s limits steps m leads stop
+    → v.found ≡ None → HasCauseAmong s limits steps m leads stop
     → RunningState s limits (with_crew h h.list.crew (Some (end_with h.list.kept stop))) steps m leads count (slice_set views seat (finding v stop))
 
 -- a seat that found a stop halts: the stop is kept unless an end is, and the seat is answered the kept end

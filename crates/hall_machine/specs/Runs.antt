@@ -13,10 +13,10 @@ MeetsOnTheWay s limits run stop =
 
 -- A stop has its cause: that of the arena or of the deques on the way of the run, that of the actions in the program, which has more of them
 -- than are allowed.
-abbrev pub HasCause : Setting → Limits → List Pair → Stop → Type 0
-HasCause s limits run (arena_full live asked) = MeetsOnTheWay s limits run (arena_full live asked)
-HasCause s limits run (deques_full deques) = MeetsOnTheWay s limits run (deques_full deques)
-HasCause s limits run (steps_spent limit) = (limit ≡ limits.actions) × (limits.actions < length s.list)
+abbrev pub StopHasCause : Setting → Limits → List Pair → Stop → Type 0
+StopHasCause s limits run (arena_full live asked) = MeetsOnTheWay s limits run (arena_full live asked)
+StopHasCause s limits run (deques_full deques) = MeetsOnTheWay s limits run (deques_full deques)
+StopHasCause s limits run (steps_spent limit) = (limit ≡ limits.actions) × (limits.actions < length s.list)
 
 -- Threads come to this run with this ending: it is one of the machine from its opening moment on. If it has finished, the root has ended at its
 -- last moment, and no give up of it was free; if it was stopped, the stop has its cause.
@@ -24,4 +24,4 @@ pub record IsThreadRun (s : Setting) (limits : Limits) (run : List Pair) (last :
   pub reaches : Reaches s opening run last
   pub ended : ending ≡ finished → HasEnded s last []
   pub none_free : ending ≡ finished → NoneFree s opening run last reaches
-  pub stopped_by : (stop : Stop) → ending ≡ stopped stop → HasCause s limits run stop
+  pub stopped_by : (stop : Stop) → ending ≡ stopped stop → StopHasCause s limits run stop

@@ -10,7 +10,7 @@ use Rattle.hall_machine.specs.Steps.{Step, Leads, halted}
 use Rattle.hall_machine.specs.Standing.{HallStands}
 use Rattle.hall_machine.specs.Writing.{place_of}
 use Rattle.hall_machine.specs.Views.{View, fresh, joined}
-use Rattle.hall_machine.specs.Crew.{Crew, HasCause, MayBeKept}
+use Rattle.hall_machine.specs.Crew.{Crew, HasCauseAmong, MayBeKept}
 
 -- the hall with another crew, and with this end or none
 abbrev pub with_crew : Hall → List ℕ → Option End → Hall
@@ -62,7 +62,7 @@ finding v stop = record v { found = Some stop }
 abbrev pub FindingKeepsCrew : Setting → Type 0
 FindingKeepsCrew s = (limits : Limits) (h : Hall) (steps : List Step) (m : Moment) (leads : Leads s steps m) (count : ℕ) (views : List View)
     (seat : ℕ) (v : View) (stop : Stop) → Crew s limits h steps m leads count views → slice_get views seat ≡ Some v → 0 < v.places
-    → v.counting ≡ false → v.found ≡ None → HasCause s limits steps m leads stop
+    → v.counting ≡ false → v.found ≡ None → HasCauseAmong s limits steps m leads stop
     → Crew s limits h steps m leads count (slice_set views seat (finding v stop))
 
 -- the end that is kept where a stop is to be kept: the one that was kept before, and else the stop

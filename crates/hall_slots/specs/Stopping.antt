@@ -13,7 +13,7 @@ use Rattle.turn_table.specs.Seats.{with_hand}
 use Rattle.turn_table.specs.Backs.{unchanged}
 use Rattle.hall_machine.specs.Steps.{Step, Leads}
 use Rattle.hall_machine.specs.Views.{View}
-use Rattle.hall_machine.specs.Crew.{HasCause}
+use Rattle.hall_machine.specs.Crew.{HasCauseAmong}
 use Rattle.hall_machine.specs.State.{RunningState}
 use Rattle.hall_slots.specs.declared.list_slot.ListSlot.{ListSlot}
 use Rattle.hall_slots.specs.declared.seat_note.SeatNote.{SeatNote}
@@ -37,7 +37,7 @@ IsCaused key seat stop =
     → (steps : List Step) (m : Moment) (leads : Leads (machine_of c (terms_of key)) steps m) (count : ℕ) (views : List View)
     → RunningState (machine_of c (terms_of key)) (Terms.limits (terms_of key)) (hall_shown shown) steps m leads count views
     → slice_get views seat.number ≡ Some (view_of seat.hand.note)
-    → HasCause (machine_of c (terms_of key)) (Terms.limits (terms_of key)) steps m leads (stop_shown stop)
+    → HasCauseAmong (machine_of c (terms_of key)) (Terms.limits (terms_of key)) steps m leads (stop_shown stop)
 
 -- want of memory needs none
 abbrev pub MemoryNeedsNoCause : Type 0

@@ -25,7 +25,7 @@ use Rattle.turn_table.specs.Hands.{Shows}
 use Rattle.turn_table.specs.Notes.{HasAs}
 use Rattle.turn_table.proofs.Standing.{shown_as}
 use Rattle.play_rules.specs.Choices.{IsReadyAt, reach_of}
-use Rattle.hall_slots.specs.Passed.Crew.{HasCause, SeatStands, Crew}
+use Rattle.hall_slots.specs.Passed.Crew.{HasCauseAmong, SeatStands, Crew}
 use Rattle.hall_slots.specs.Passed.Seats.{finding}
 use Rattle.hall_slots.specs.Passed.State.{RunningState}
 use Rattle.hall_slots.specs.Passed.Steps.{Step, Leads}
@@ -111,10 +111,10 @@ module _ (key : HallKey) (seat : HallSeat) (worker : ℕ) (may : MaySteal seat w
         (record { noted = noted; placed = may.thief.placed; stays = may.thief.stays }) may.thief.idle (ap (option_map stop_shown) may.none) first deque_there (inr many)
         (let same = ap length places_are in let f = full in let d = most in omega (arith, same, f, d))
 
-    its_cause : HasCause (machine_of c (terms_of key)) (Terms.limits (terms_of key)) steps m leads (by_rule (play.deques_full key.deques))
+    its_cause : HasCauseAmong (machine_of c (terms_of key)) (Terms.limits (terms_of key)) steps m leads (by_rule (play.deques_full key.deques))
     its_cause = SeatStands.found (found_now.seats seat.number (finding view (by_rule (play.deques_full key.deques))) (set_same views seat.number (finding view (by_rule (play.deques_full key.deques))) view noted) may.thief.placed)
         (by_rule (play.deques_full key.deques)) refl
 
   pub full_is_caused : IsCaused key seat (DequesFull list.part.order.most)
-  full_is_caused c of shown shows steps m leads count views state noted = subst (λ n. HasCause (machine_of c (terms_of key)) (Terms.limits (terms_of key)) steps m leads (by_rule (play.deques_full n))) (sym most)
+  full_is_caused c of shown shows steps m leads count views state noted = subst (λ n. HasCauseAmong (machine_of c (terms_of key)) (Terms.limits (terms_of key)) steps m leads (by_rule (play.deques_full n))) (sym most)
       (its_cause c of shown shows steps m leads count views state noted)

@@ -9,7 +9,7 @@ use Rattle.hall_machine.specs.Crew as crew
 use Rattle.hall_machine.specs.Steps.{Step, Leads, HasMet, run_of}
 use Rattle.hall_machine.specs.Values.{by_rule}
 use Rattle.hall_machine.proofs.Going.{steps_are_a_run}
-use Rattle.hall_machine.specs.Runs.{HasCause, MeetsOnTheWay}
+use Rattle.hall_machine.specs.Runs.{StopHasCause, MeetsOnTheWay}
 
 pub met : (s : Setting) (limits : Limits) (steps : List Step) (m : Moment) (leads : Leads s steps m) (stop : play.Stop) → HasMet s limits steps m leads stop
     → MeetsOnTheWay s limits (run_of steps) stop
@@ -22,7 +22,7 @@ met s limits (step ∷ earlier) m leads stop (inr before) =
     (found.0, found.1 ++ last, ap (λ run. run ++ last) found.2 ∙ append_assoc found.0 found.1 last, found.3, found.4, found.5)
 
 pub caused : (s : Setting) (limits : Limits) (steps : List Step) (m : Moment) (leads : Leads s steps m) (stop : play.Stop)
-    → crew.HasCause s limits steps m leads (by_rule stop) → HasCause s limits (run_of steps) stop
+    → crew.HasCauseAmong s limits steps m leads (by_rule stop) → StopHasCause s limits (run_of steps) stop
 caused s limits steps m leads (play.arena_full live asked) cause = met s limits steps m leads (play.arena_full live asked) cause
 caused s limits steps m leads (play.deques_full deques) cause = met s limits steps m leads (play.deques_full deques) cause
 caused s limits steps m leads (play.steps_spent limit) cause = cause

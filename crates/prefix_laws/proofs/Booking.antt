@@ -19,7 +19,7 @@ use Rattle.serial_journal.specs.Telling.{Tells}
 use Rattle.prefix_laws.specs.declared.names.Name.{Name}
 use Rattle.prefix_laws.specs.Listing.{AreBooked, AreListed, born_in, ran_in}
 use Rattle.prefix_laws.specs.Naming.{name_shown, ArePlaced, IsKnown}
-use Rattle.prefix_laws.specs.Prefixes.{StandsBeside, TellsRun, ran_of}
+use Rattle.prefix_laws.specs.Prefixes.{StandsBeside, TellsDepthFirst, ran_of}
 use Rattle.prefix_laws.proofs.Naming.{places_are, all_known}
 use Rattle.prefix_laws.proofs.Sorting.{listed_at}
 
@@ -35,7 +35,7 @@ module _ (table : PeriodTable) (serial : Serial) (beside : StandsBeside table se
   module _ (births : List (List Birth)) (born : (sorted : List Period) → AreListed table sorted → births ≡ map born_in sorted)
       (ran : List (List ActionId)) (ran_so : (sorted : List Period) → AreListed table sorted → ran ≡ map ran_in sorted)
       (names : List Name) (named : (items : List Item) → Tells items serial → names ≡ map name_shown (actions_of items)) where
-    known_at : (c : Setting) (books : List Book) → AreBooked c table books → TellsRun c serial → Each (Each (IsKnown births names)) ran
+    known_at : (c : Setting) (books : List Book) → AreBooked c table books → TellsDepthFirst c serial → Each (Each (IsKnown births names)) ran
     known_at c books b tells =
         let tell = b.tell in let listed = listed_at c table books b in
         subst (λ bs. Each (Each (IsKnown bs names)) ran) (sym (born tell.sorted listed))
@@ -50,7 +50,7 @@ module _ (table : PeriodTable) (serial : Serial) (beside : StandsBeside table se
         each_among (IsKnown births names) id ids (each_among (Each (IsKnown births names)) ids ran (known_at w.0 w.1 w.2 w.3) ids_there) id_there)))
 
     -- and the places are those of the books
-    pub places_at : (c : Setting) (books : List Book) → AreBooked c table books → TellsRun c serial → (all : List (List ℕ))
+    pub places_at : (c : Setting) (books : List Book) → AreBooked c table books → TellsDepthFirst c serial → (all : List (List ℕ))
         → AllZip (ArePlaced births names) ran all → all ≡ map ran_of books
     places_at c books b tells all so =
         let tell = b.tell in let listed = listed_at c table books b in

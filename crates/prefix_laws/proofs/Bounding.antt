@@ -12,7 +12,7 @@ use Rattle.open_periods.specs.declared.table.PeriodTable.{PeriodTable}
 use Rattle.serial_journal.specs.declared.serial.Serial.{Serial}
 use Rattle.depth_first_run.specs.Run.{list_of}
 use Rattle.prefix_laws.specs.Listing.{AreBooked}
-use Rattle.prefix_laws.specs.Prefixes.{IsWithin, IsWithinBeside, StandsBeside, TellsRun}
+use Rattle.prefix_laws.specs.Prefixes.{IsWithin, IsWithinBeside, StandsBeside, TellsDepthFirst}
 
 below_it : (live high two most : ℕ) (l p : ℤ) → pos live ≡ l → pos high ≡ p → most ≡ high + two → l ≤ℤ (p +ℤ pos two) → live ≤ most
 below_it live high two most l p live_is high_is sum below = omega (arith, ints, live_is, high_is, sum, below)
@@ -26,10 +26,10 @@ module _ (k live : ℕ) (table : PeriodTable) (serial : Serial) where
   beside_of beside = ∥∥₁_map beside (λ w. (w.0, w.1, w.2.booked, w.3))
 
   module _ (ahead two most : ℕ)
-      (ahead_is : (c : Setting) (books : List Book) (n : ℕ) → AreBooked c table books → TellsRun c serial → IsPrefix (list_of c) (done_in books) n
+      (ahead_is : (c : Setting) (books : List Book) (n : ℕ) → AreBooked c table books → TellsDepthFirst c serial → IsPrefix (list_of c) (done_in books) n
       → ahead ≡ periods_ahead n books)
       (two_is : two ≡ 2 * k * ahead) (sum : most ≡ serial.peak + two) where
-    module _ (c : Setting) (books : List Book) (n : ℕ) (w : IsWithin c k live table books) (tells : TellsRun c serial)
+    module _ (c : Setting) (books : List Book) (n : ℕ) (w : IsWithin c k live table books) (tells : TellsDepthFirst c serial)
         (prefix : IsPrefix (list_of c) (done_in books) n) where
       two_there : two ≡ 2 * c.quota * periods_ahead n books
       two_there = two_is ∙ ap (λ q. 2 * q * ahead) (sym w.quota) ∙ ap (λ a. 2 * c.quota * a) (ahead_is c books n w.booked tells prefix)

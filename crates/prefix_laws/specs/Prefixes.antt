@@ -18,12 +18,12 @@ use Rattle.async_core.specs.declared.run.AsyncCore.{AsyncCore}
 use Rattle.prefix_laws.specs.Listing.{AreBooked}
 
 -- it tells the depth-first run of a program
-abbrev pub TellsRun : Setting → Serial → Type 0
-TellsRun c serial = Tells (State.items (whole c)) serial
+abbrev pub TellsDepthFirst : Setting → Serial → Type 0
+TellsDepthFirst c serial = Tells (State.items (whole c)) serial
 
 -- it tells that of the program of a table, with this quota
 abbrev pub TellsTable : Table → ℕ → Serial → Type 0
-TellsTable t k serial = ∥ ((c : Setting) × IsSettingOf t k c × TellsRun c serial) ∥₁
+TellsTable t k serial = ∥ ((c : Setting) × IsSettingOf t k c × TellsDepthFirst c serial) ∥₁
 
 -- it tells that of the core's program, with the core's quota
 abbrev pub IsSerialOf : Core → Serial → Type 0
@@ -34,7 +34,7 @@ IsSerialOfList core serial = TellsTable (code_shown core.code) (quota_words core
 
 -- it tells that of a program whose books the table has
 abbrev pub StandsBeside : PeriodTable → Serial → Type 0
-StandsBeside table serial = ∥ ((c : Setting) × (books : List Book) × AreBooked c table books × TellsRun c serial) ∥₁
+StandsBeside table serial = ∥ ((c : Setting) × (books : List Book) × AreBooked c table books × TellsDepthFirst c serial) ∥₁
 
 -- The table has these books of a program with this quota, and so many words are in use with them, which are within the bound.
 pub record IsWithin (c : Setting) (k words : ℕ) (table : PeriodTable) (books : List Book) : Type 0 where
@@ -46,7 +46,7 @@ pub record IsWithin (c : Setting) (k words : ℕ) (table : PeriodTable) (books :
 
 -- so it is for a program whose run is told
 abbrev pub IsWithinBeside : (k words : ℕ) → PeriodTable → Serial → Type 0
-IsWithinBeside k words table serial = ∥ ((c : Setting) × (books : List Book) × IsWithin c k words table books × TellsRun c serial) ∥₁
+IsWithinBeside k words table serial = ∥ ((c : Setting) × (books : List Book) × IsWithin c k words table books × TellsDepthFirst c serial) ∥₁
 
 -- what a period ran
 abbrev pub ran_of : Book → List ℕ

@@ -8,7 +8,7 @@ ghost use Rattle.deque_machine.specs.Books.{Book as AnyBook};
 ghost use Rattle.deque_machine.specs.Lists.{Each};
 ghost use Rattle.prefix_laws.specs.Listing.{AreBooked, births_behind, books_behind};
 ghost use Rattle.prefix_laws.specs.Naming.{ArePlaced, IsKnown};
-ghost use Rattle.prefix_laws.specs.Prefixes.{StandsBeside, TellsRun, ran_of, places_behind};
+ghost use Rattle.prefix_laws.specs.Prefixes.{StandsBeside, TellsDepthFirst, ran_of, places_behind};
 
 use crate::names::{Name, name_of, names_in, place_of};
 use crate::numbered::in_order;
@@ -73,7 +73,7 @@ pub(crate) fn booked(
     serial: &Serial,
 ) -> Result<BoundedList<Places>, AllocError>
     requires { StandsBeside table.now serial.now }
-    ensures { (c : Setting) (books : AnyList AnyBook) → AreBooked c table.now books → TellsRun c serial.now
+    ensures { (c : Setting) (books : AnyList AnyBook) → AreBooked c table.now books → TellsDepthFirst c serial.now
         → IfOk result (λ all. places_behind (entries all) ≡ map ran_of books) }
 {
     let periods = in_order(alloc, table)?;

@@ -7,7 +7,7 @@ ghost use Rattle.deque_machine.specs.Moments.{Moment, Rises, done_at, live_at, t
 ghost use Rattle.deque_machine.specs.Runs.{Pair};
 ghost use Rattle.deque_machine.specs.Books.{IsPrefix, bound, periods_ahead};
 ghost use Rattle.dfd_core.specs.Cores.{IsAt};
-ghost use Rattle.prefix_laws.specs.Prefixes.{IsSerialOf, TellsRun};
+ghost use Rattle.prefix_laws.specs.Prefixes.{IsSerialOf, TellsDepthFirst};
 
 use crate::deque_labels::labels_of;
 use crate::margin::margin_of;
@@ -39,7 +39,7 @@ pub fn leaves(alloc: Global, core: &Core) -> Result<Vec<Label>, AllocError>
 /// There is not enough memory.
 pub fn prefix_split(alloc: Global, core: &Core, serial: &Serial) -> Result<u32, AllocError>
     requires { IsSerialOf core.now serial.now }
-    ensures { (c : Setting) (run : AnyList Pair) (m : Moment) → IsAt c core.now run m → TellsRun c serial.now
+    ensures { (c : Setting) (run : AnyList Pair) (m : Moment) → IsAt c core.now run m → TellsDepthFirst c serial.now
         → IfOk result (λ n. IsPrefix (list_of c) (done_at m) n) }
 {
     prefix_of(alloc, &core.scheduler().table, serial)
@@ -54,7 +54,7 @@ pub fn prefix_split(alloc: Global, core: &Core, serial: &Serial) -> Result<u32, 
 /// There is not enough memory.
 pub fn ahead_now(alloc: Global, core: &Core, serial: &Serial) -> Result<u32, AllocError>
     requires { IsSerialOf core.now serial.now }
-    ensures { (c : Setting) (run : AnyList Pair) (m : Moment) (n : ℕ) → IsAt c core.now run m → TellsRun c serial.now
+    ensures { (c : Setting) (run : AnyList Pair) (m : Moment) (n : ℕ) → IsAt c core.now run m → TellsDepthFirst c serial.now
         → IsPrefix (list_of c) (done_at m) n → IfOk result (λ ahead. ahead ≡ periods_ahead n m.books) }
 {
     ahead_of(alloc, &core.scheduler().table, serial)
@@ -70,7 +70,7 @@ pub fn ahead_now(alloc: Global, core: &Core, serial: &Serial) -> Result<u32, All
 /// There is not enough memory. The bound always has 64 bits.
 pub fn bound_margin(alloc: Global, core: &Core, serial: &Serial) -> Result<u64, AllocError>
     requires { IsSerialOf core.now serial.now }
-    ensures { (c : Setting) (run : AnyList Pair) (m : Moment) (n : ℕ) → IsAt c core.now run m → TellsRun c serial.now
+    ensures { (c : Setting) (run : AnyList Pair) (m : Moment) (n : ℕ) → IsAt c core.now run m → TellsDepthFirst c serial.now
         → IsPrefix (list_of c) (done_at m) n
         → IfOk result (λ margin. pos margin +ℤ live_at (list_of c) m ≡ bound c.quota (list_of c) (periods_ahead n m.books)) }
 {

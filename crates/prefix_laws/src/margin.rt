@@ -5,7 +5,7 @@ ghost use Rattle.depth_first_run.specs.States.{Setting};
 ghost use Rattle.depth_first_list.specs.QuotaWords.{quota_words};
 ghost use Rattle.deque_machine.specs.Books.{Book as AnyBook, IsPrefix, bound, done_in, periods_ahead, words_in_use};
 ghost use Rattle.depth_first_run.specs.Run.{list_of};
-ghost use Rattle.prefix_laws.specs.Prefixes.{IsWithin, IsWithinBeside, TellsRun};
+ghost use Rattle.prefix_laws.specs.Prefixes.{IsWithin, IsWithinBeside, TellsDepthFirst};
 
 use crate::prefix::ahead_of;
 use depth_first_list::Quota;
@@ -30,7 +30,7 @@ pub(crate) fn margin_of(
     live: u64,
 ) -> Result<u64, AllocError>
     requires { IsWithinBeside (quota_words k) live table.now serial.now }
-    ensures { (c : Setting) (books : AnyList AnyBook) (n : ℕ) → IsWithin c (quota_words k) live table.now books → TellsRun c serial.now
+    ensures { (c : Setting) (books : AnyList AnyBook) (n : ℕ) → IsWithin c (quota_words k) live table.now books → TellsDepthFirst c serial.now
         → IsPrefix (list_of c) (done_in books) n
         → IfOk result (λ margin. pos margin +ℤ words_in_use (list_of c) books ≡ bound c.quota (list_of c) (periods_ahead n books)) }
 {

@@ -7,7 +7,7 @@ ghost use Rattle.deque_machine.specs.Books.{Book as AnyBook, IsPrefix, done_in, 
 ghost use Rattle.deque_machine.specs.Lists.{Among};
 ghost use Rattle.depth_first_run.specs.Run.{list_of};
 ghost use Rattle.prefix_laws.specs.Listing.{AreBooked};
-ghost use Rattle.prefix_laws.specs.Prefixes.{StandsBeside, TellsRun, all_ran, many_past, places_behind};
+ghost use Rattle.prefix_laws.specs.Prefixes.{StandsBeside, TellsDepthFirst, all_ran, many_past, places_behind};
 
 use crate::booked::{Places, booked};
 use containers::BoundedList;
@@ -92,7 +92,7 @@ pub(crate) fn prefix_of(
     serial: &Serial,
 ) -> Result<u32, AllocError>
     requires { StandsBeside table.now serial.now }
-    ensures { (c : Setting) (books : AnyList AnyBook) → AreBooked c table.now books → TellsRun c serial.now
+    ensures { (c : Setting) (books : AnyList AnyBook) → AreBooked c table.now books → TellsDepthFirst c serial.now
         → IfOk result (λ n. IsPrefix (list_of c) (done_in books) n) }
 {
     let books = booked(alloc, table, serial)?;
@@ -106,7 +106,7 @@ pub(crate) fn ahead_of(
     serial: &Serial,
 ) -> Result<u32, AllocError>
     requires { StandsBeside table.now serial.now }
-    ensures { (c : Setting) (books : AnyList AnyBook) (n : ℕ) → AreBooked c table.now books → TellsRun c serial.now
+    ensures { (c : Setting) (books : AnyList AnyBook) (n : ℕ) → AreBooked c table.now books → TellsDepthFirst c serial.now
         → IsPrefix (list_of c) (done_in books) n → IfOk result (λ ahead. ahead ≡ periods_ahead n books) }
 {
     let books = booked(alloc, table, serial)?;

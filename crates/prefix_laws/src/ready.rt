@@ -7,7 +7,7 @@ ghost use Rattle.deque_machine.specs.Moments.{Moment, Rises, done_at, live_at, t
 ghost use Rattle.deque_machine.specs.Runs.{Pair};
 ghost use Rattle.deque_machine.specs.Books.{IsPrefix, bound, periods_ahead};
 ghost use Rattle.async_core.specs.Cores.{IsAt};
-ghost use Rattle.prefix_laws.specs.Prefixes.{IsSerialOfList, TellsRun};
+ghost use Rattle.prefix_laws.specs.Prefixes.{IsSerialOfList, TellsDepthFirst};
 
 use crate::deque_labels::labels_of;
 use crate::margin::margin_of;
@@ -36,7 +36,7 @@ pub fn entries(alloc: Global, core: &AsyncCore) -> Result<Vec<Label>, AllocError
 /// There is not enough memory. The bound always has 64 bits.
 pub fn async_margin(alloc: Global, core: &AsyncCore, serial: &Serial) -> Result<u64, AllocError>
     requires { IsSerialOfList core.now serial.now }
-    ensures { (c : Setting) (run : AnyList Pair) (m : Moment) (n : ℕ) → IsAt c core.now run m → TellsRun c serial.now
+    ensures { (c : Setting) (run : AnyList Pair) (m : Moment) (n : ℕ) → IsAt c core.now run m → TellsDepthFirst c serial.now
         → IsPrefix (list_of c) (done_at m) n
         → IfOk result (λ margin. pos margin +ℤ live_at (list_of c) m ≡ bound c.quota (list_of c) (periods_ahead n m.books)) }
 {

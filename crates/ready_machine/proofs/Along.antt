@@ -25,7 +25,7 @@ use Rattle.deque_machine.proofs.Sizes.{live_below_whole}
 use Rattle.deque_machine.specs.Lists.{total}
 use Rattle.ready_machine.specs.Entries.{IsReadyList}
 use Rattle.ready_machine.specs.ReadyMachine.{MayReady, ReadyReaches}
-use Rattle.ready_machine.specs.Laws.{EventsKeepReady, ReachedIsReady, BoundInReady, AheadIsMarked, MovesAreLive, MarkedBound, MarksNeverFall, ArenaRefuses, EndedDidAll, ArenaNeverFills}
+use Rattle.ready_machine.specs.Laws.{EventsKeepReady, ReachedIsReady, BoundInReady, ReadyAheadIsMarked, ReadyMovesAreLive, ReadyMarkedBound, ReadyMarksNeverFall, ReadyArenaRefuses, ReadyEndedDidAll, ReadyArenaNeverFills}
 use Rattle.ready_machine.proofs.Sharing.{IsBeside, beside, kept_ready, opening_is_ready}
 
 pub ready_along : (s : Setting) → IsDepthFirst s.quota s.list → (run : List Pair) (first last : Moment) → IsReadyList s first
@@ -215,10 +215,10 @@ module _ (s : Setting) (some : 0 < s.quota) (list : IsDepthFirst s.quota s.list)
   pub bound_in_ready : BoundInReady s
   bound_in_ready run m n reaches prefix = bound_at s some list m n (reached_is_ready run m reaches).lawful prefix
 
-  pub ahead_is_marked : AheadIsMarked s
+  pub ahead_is_marked : ReadyAheadIsMarked s
   ahead_is_marked run m n reaches prefix = ahead_marked_at s list m n (reached_is_ready run m reaches).lawful prefix
 
-  pub moves_are_live : MovesAreLive s
+  pub moves_are_live : ReadyMovesAreLive s
   moves_are_live run m reaches =
       let all = live_grows s list run opening m (opening_is_ready s list) reaches in
       let inside = places_inside s list run opening m (opening_is_ready s list) reaches in
@@ -228,7 +228,7 @@ module _ (s : Setting) (some : 0 < s.quota) (list : IsDepthFirst s.quota s.list)
       from_nothing : (x y z : ℤ) → x ≡ pos 0 +ℤ y → z ≡ y → z ≡ x
       from_nothing x y z e f = omega (arith, ints)
 
-  pub marked_bound : MarkedBound s
+  pub marked_bound : ReadyMarkedBound s
   marked_bound run m reaches =
       let inside = places_inside s list run opening m (opening_is_ready s list) reaches in
       let high = moves_rise_as_high s list (places_of run) inside in
@@ -239,10 +239,10 @@ module _ (s : Setting) (some : 0 < s.quota) (list : IsDepthFirst s.quota s.list)
       from_nothing : (z x y : ℤ) → z ≡ x → (pos 0 +ℤ x) ≤ℤ y → z ≤ℤ y
       from_nothing z x y e le = omega (arith, ints)
 
-  pub marks_never_fall : MarksNeverFall s
+  pub marks_never_fall : ReadyMarksNeverFall s
   marks_never_fall run first last ready reaches = marks_grow s list run first last ready reaches
 
-  pub arena_refuses : ArenaRefuses s
+  pub arena_refuses : ReadyArenaRefuses s
   arena_refuses run m after worker place n periods capacity reaches may room refused prefix =
       let ready : IsReadyList s m = reached_is_ready run m reaches in
       let next : IsReadyList s after = kept_ready s list m ready worker (does place) after may in
@@ -254,12 +254,12 @@ module _ (s : Setting) (some : 0 < s.quota) (list : IsDepthFirst s.quota s.list)
       above : (b c x w y : ℤ) → b ≤ℤ c → c <ℤ (x +ℤ w) → y ≡ x +ℤ (w +ℤ pos 0) → b <ℤ y
       above b c x w y p q e = omega (arith, ints)
 
-  pub ended_did_all : EndedDidAll s
+  pub ended_did_all : ReadyEndedDidAll s
   ended_did_all run m reaches has place inside =
       ended_has_all s.quota s.list list m.books has.0
       (((reached_is_ready run m reaches).lawful).periods).lawful has.1 has.2 has.3 has.4 place inside
 
-  pub arena_never_fills : ArenaNeverFills s
+  pub arena_never_fills : ReadyArenaNeverFills s
   arena_never_fills run m after worker place reaches may =
       let ready : IsReadyList s m = reached_is_ready run m reaches in
       let next : IsReadyList s after = kept_ready s list m ready worker (does place) after may in

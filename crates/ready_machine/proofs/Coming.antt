@@ -22,7 +22,7 @@ use Rattle.ready_machine.specs.Entries.{entry, IsEntry, IsLeastFree, IsReadyList
 use Rattle.ready_machine.specs.ReadyMachine.{IsShared, MayReady, takes, forks_left, as_with_deques}
 use Rattle.ready_machine.specs.ReadyPlay.{WantsReady, a_take, of_its_entry}
 use Rattle.ready_machine.specs.Laws.{AllButForksAreShared, ForksAreCut}
-use Rattle.ready_machine.specs.PlayLaws.{WantedMayCome, SomebodysTurn}
+use Rattle.ready_machine.specs.PlayLaws.{ReadyWantedMayCome, ReadySomebodysTurn}
 use Rattle.ready_machine.proofs.Sharing.{take_is_theft}
 use Rattle.ready_machine.proofs.Cuts.{IsSameCut, one_only_cut}
 use Rattle.ready_machine.proofs.Agreeing.{can_go, can_move, wants_ready}
@@ -221,7 +221,7 @@ forks_are_cut s m worker place child left right id new thread after ready deed l
     fork_cut s m ready worker place child after may deed left right id new thread least are
 
 module _ (s : Setting) (list : IsDepthFirst s.quota s.list) where
-  pub wanted_may_come : WantedMayCome s
+  pub wanted_may_come : ReadyWantedMayCome s
   wanted_may_come m worker event ready below wants = by_case event wants
     where
       by_case : (event : Event) → WantsReady s m worker event → (after : Moment) × MayReady s m worker event after
@@ -231,7 +231,7 @@ module _ (s : Setting) (list : IsDepthFirst s.quota s.list) where
           let with_deques = wanted_comes s list m ready.lawful worker below 0 event wants in
           comes s m ready worker some event with_deques.0 with_deques.1
 
-  pub somebodys_turn : SomebodysTurn s
+  pub somebodys_turn : ReadySomebodysTurn s
   somebodys_turn words n m ready workers not_over =
       let w = somebody_moves s list m ready.lawful workers (words n) not_over in
       let first : IsFirst s.workers (words n) (CanMove s m) w.0 = w.1 in

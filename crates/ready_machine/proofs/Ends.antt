@@ -21,7 +21,7 @@ use Rattle.deque_machine.proofs.LiveThreads.{fork_is_done}
 use Rattle.deque_machine.proofs.Ends.{one_book}
 use Rattle.ready_machine.specs.Entries.{IsReadyList}
 use Rattle.ready_machine.specs.ReadyMachine.{ReadyReaches, NoneGivenFree}
-use Rattle.ready_machine.specs.Laws.{RunsEnd, RunsAreShort}
+use Rattle.ready_machine.specs.Laws.{ReadyRunsEnd, ReadyRunsAreShort}
 use Rattle.ready_machine.proofs.Owners.{one_if_some, how_many_owners, few_owners}
 use Rattle.ready_machine.proofs.Sharing.{kept_ready, opening_is_ready}
 use Rattle.ready_machine.proofs.Along.{ready_along}
@@ -309,7 +309,7 @@ module _ (s : Setting) (list : IsDepthFirst s.quota s.list) (m : Moment) (lawful
       let same = as_many s.list Q m.waiting all in omega (arith, few, same)
 
 module _ (s : Setting) (some : 0 < s.quota) (list : IsDepthFirst s.quota s.list) where
-  pub runs_end : RunsEnd s
+  pub runs_end : ReadyRunsEnd s
   unfolding opens busies acts
   runs_end fork run m reaches free =
       let ready : IsReadyList s m = ready_along s list run opening m (opening_is_ready s list) reaches in
@@ -318,7 +318,7 @@ module _ (s : Setting) (some : 0 < s.quota) (list : IsDepthFirst s.quota s.list)
       let open_ones = few_open s m ready.lawful in
       omega (arith, rises, few, open_ones)
 
-  pub runs_are_short : RunsAreShort s
+  pub runs_are_short : ReadyRunsAreShort s
   unfolding acts
   runs_are_short fork first last run reaches ready free =
       let later : IsReadyList s last = ready_along s list run first last ready reaches in

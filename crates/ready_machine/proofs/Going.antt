@@ -6,7 +6,7 @@ use Rattle.deque_machine.specs.Play.{Limits, Stop, Ending, Meets}
 use Rattle.deque_machine.specs.Runs.{Pair}
 use Rattle.ready_machine.specs.ReadyMachine.{MayReady, ReadyReaches, NoneGivenFree}
 use Rattle.ready_machine.specs.ReadyPlay.{ReadyTurn, ReadyPlays, goes_on}
-use Rattle.ready_machine.specs.ReadyFronts.{ReadyPlaysOn, stays_here, takes_turn, FrontsGoOn, FrontsTakeTurns, FrontsAreRuns}
+use Rattle.ready_machine.specs.ReadyFronts.{ReadyPlaysOn, stays_here, takes_turn, ReadyFrontsGoOn, FrontsTakeTurns, FrontsAreRuns}
 use Rattle.ready_machine.proofs.Playing.{forced}
 
 module _ (s : Setting) (limits : Limits) (words : ℕ → ℕ) where
@@ -35,7 +35,7 @@ module _ (s : Setting) (limits : Limits) (words : ℕ → ℕ) where
       let r = front_is_run (suc n) drawn next here later further in
       ((next, may, r.0), (forced s m pair.worker pair.event turn.wants, r.1))
 
-pub fronts_go_on : (s : Setting) → FrontsGoOn s
+pub fronts_go_on : (s : Setting) → ReadyFrontsGoOn s
 fronts_go_on s limits words n drawn m here last front rest ending on plays = front_goes_on s limits words n drawn m here last front rest
     ending on plays
 

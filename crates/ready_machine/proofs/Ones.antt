@@ -20,7 +20,7 @@ use Rattle.deque_machine.proofs.OnePlay as replay
 use Rattle.ready_machine.specs.Entries.{entry, IsEntry, IsRun, IsLeastFree, IsReadyList}
 use Rattle.ready_machine.specs.ReadyMachine.{MayReady, takes, forks_left, as_with_deques}
 use Rattle.ready_machine.specs.ReadyPlay.{CanGo, WantsReady, a_take, of_its_entry, ReadyTurn, ReadyPlays, is_over, is_stopped, goes_on}
-use Rattle.ready_machine.specs.ReplayLaws.{OneWay, OnePlay}
+use Rattle.ready_machine.specs.ReplayLaws.{ReadyOneWay, ReadyOnePlay}
 use Rattle.ready_machine.proofs.Sharing.{take_is_theft, kept_ready, opening_is_ready}
 use Rattle.ready_machine.proofs.Cuts.{one_first_cut, one_only_cut}
 use Rattle.ready_machine.proofs.Coming.{IsForkEvent, shared_is_no_fork, each_beside, no_entry}
@@ -121,7 +121,7 @@ module _ (s : Setting) (some : 0 < s.quota) (list : IsDepthFirst s.quota s.list)
     ]
   ]
 
-pub one_way : (s : Setting) → 0 < s.quota → IsDepthFirst s.quota s.list → OneWay s
+pub one_way : (s : Setting) → 0 < s.quota → IsDepthFirst s.quota s.list → ReadyOneWay s
 one_way s some list m one other worker event ready may may' = one_way_from s some list m ready worker event one other may may'
 
 -- the first that passes is one
@@ -282,6 +282,6 @@ module _ (s : Setting) (some : 0 < s.quota) (list : IsDepthFirst s.quota s.list)
       (kept_ready s list m ready pair.worker pair.event next may) rest again in
       (ap (λ p. p ∷ later) same ∙ ap (λ t. pair' ∷ t) further.0, further.1, further.2)
 
-pub one_play : (s : Setting) → 0 < s.quota → IsDepthFirst s.quota s.list → OnePlay s
+pub one_play : (s : Setting) → 0 < s.quota → IsDepthFirst s.quota s.list → ReadyOnePlay s
 one_play s some list limits words run run' last last' ending ending' plays plays' =
     one_play_from s some list limits words 0 opening run run' last last' ending ending' (opening_is_ready s list) plays plays'

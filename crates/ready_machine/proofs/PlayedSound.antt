@@ -28,7 +28,7 @@ use Rattle.ready_machine.proofs.Agreeing.{owner_is_busy}
 use Rattle.ready_machine.proofs.Playing.{takes_meet_no_stop}
 use Rattle.ready_machine.specs.Step.{ready_step}
 use Rattle.ready_machine.specs.Played.{any_ready, can_go, take_from, wants_of, stop_of, played_unless, played_with, played_by, ready_play}
-use Rattle.ready_machine.specs.ReplayLaws.{PlayedIsPlay}
+use Rattle.ready_machine.specs.ReplayLaws.{ReadyPlayedIsPlay}
 use Rattle.ready_machine.proofs.Replaying.{ready_step_sound}
 
 -- a test that says just what is meant
@@ -337,6 +337,6 @@ module _ (s : Setting) (list : IsDepthFirst s.quota s.list) (limits : Limits) (w
       by_end n m ready p turns (λ x q next rest. played_sound turns (suc n) x q next rest) (ended_by s.list (done_at m) []
       (length s.list)) refl is
 
-pub played_is_play : (s : Setting) → 0 < s.quota → IsDepthFirst s.quota s.list → PlayedIsPlay s
+pub played_is_play : (s : Setting) → 0 < s.quota → IsDepthFirst s.quota s.list → ReadyPlayedIsPlay s
 played_is_play s some list limits words turns played is =
     played_sound s list limits words turns 0 opening played (opening_is_ready s list) is

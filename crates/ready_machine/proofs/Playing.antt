@@ -23,7 +23,7 @@ use Rattle.ready_machine.specs.Entries.{entry, IsLeftmostReady, IsReadyList}
 use Rattle.ready_machine.specs.ReadyMachine.{MayReady, ReadyReaches, NoneGivenFree}
 use Rattle.ready_machine.specs.ReadyPlay.{CanGo, WantsReady, a_take, of_its_entry, ReadyTurn, ReadyPlays, is_over, is_stopped, goes_on}
 use Rattle.ready_machine.specs.ReadyFronts.{ReadyPlaysOn, stays_here, takes_turn}
-use Rattle.ready_machine.specs.PlayLaws.{PlaysAreRuns, PlaysEnd, PlaysFinish, ListsNeverFill, ActionsSuffice, ArenasWithRoomLast, CoversNext, ArenasWithTheBoundLast, HasCause, EndingsHaveCauses}
+use Rattle.ready_machine.specs.PlayLaws.{ReadyPlaysAreRuns, ReadyPlaysEnd, ReadyPlaysFinish, ListsNeverFill, ReadyActionsSuffice, ReadyArenasWithRoomLast, ReadyCoversNext, ReadyArenasWithTheBoundLast, ReadyHasCause, ReadyEndingsHaveCauses}
 use Rattle.ready_machine.proofs.Sharing.{kept_ready, opening_is_ready}
 use Rattle.ready_machine.proofs.Along.{ready_along, arena_refuses, arena_never_fills}
 use Rattle.ready_machine.proofs.Changes.{changes, acts_once}
@@ -67,22 +67,22 @@ module _ (s : Setting) (limits : Limits) (words : ℕ → ℕ) where
   -- one turn more in front leads to the same cause
   cause_after : (n : ℕ) (m next last : Moment) (pair : Pair) (later : List Pair) (ending : Ending) → ReadyTurn s words n m pair
       → ((stop : Stop) → ¬ Meets s limits m pair.event stop) → MayReady s m pair.worker pair.event next
-      → HasCause s limits words (suc n) next later last ending → HasCause s limits words n m (pair ∷ later) last ending
+      → ReadyHasCause s limits words (suc n) next later last ending → ReadyHasCause s limits words n m (pair ∷ later) last ending
   cause_after n m next last pair later finished turn none may has = has
   cause_after n m next last pair later (stopped stop) turn none may cause =
       (cause.0, cause.1, cause.2, cause.3, takes_turn n m next last pair later cause.0 turn none may cause.4)
 
   cause_of : (n : ℕ) (m : Moment) (run : List Pair) (last : Moment) (ending : Ending) → ReadyPlays s limits words n m run last ending
-      → HasCause s limits words n m run last ending
+      → ReadyHasCause s limits words n m run last ending
   cause_of n m run last ending (is_over n' m' has) = has
   cause_of n m run last ending (is_stopped n' m' pair stop turn meets) = (n, pair, turn, meets, stays_here n m)
   cause_of n m run last ending (goes_on n' m' next last' pair later ending' turn none may rest) =
       cause_after n m next last pair later ending turn none may (cause_of (suc n) next later last ending rest)
 
-pub plays_are_runs : (s : Setting) → PlaysAreRuns s
+pub plays_are_runs : (s : Setting) → ReadyPlaysAreRuns s
 plays_are_runs s limits words run last ending plays = are_runs s limits words 0 opening run last ending plays
 
-pub endings_have_causes : (s : Setting) → EndingsHaveCauses s
+pub endings_have_causes : (s : Setting) → ReadyEndingsHaveCauses s
 endings_have_causes s limits words run last ending plays = cause_of s limits words 0 opening run last ending plays
 
 -- one event more at the end of a run
@@ -201,7 +201,7 @@ module _ (s : Setting) (some : 0 < s.quota) (list : IsDepthFirst s.quota s.list)
             ]
       ]
 
-pub plays_end : (s : Setting) → 0 < s.quota → IsDepthFirst s.quota s.list → PlaysEnd s
+pub plays_end : (s : Setting) → 0 < s.quota → IsDepthFirst s.quota s.list → ReadyPlaysEnd s
 plays_end s some list fork workers limits words =
     ends_from s some list fork workers limits words (suc (3 * length s.list + s.workers)) 0 opening [] refl tt (omega arith)
 
@@ -218,7 +218,7 @@ taken_weighs ends words some = absurd (omega arith)
 -- What excludes a stop at a moment: room for all words that the list takes, or for the bound after the next action; as many actions as the
 -- list has. A want of places never comes.
 abbrev Excluded : Setting → Limits → Moment → Stop → Type 0
-Excluded s limits m (arena_full live asked) = (total words_taken s.list ≤ limits.capacity) ⊎ CoversNext s limits.capacity m
+Excluded s limits m (arena_full live asked) = (total words_taken s.list ≤ limits.capacity) ⊎ ReadyCoversNext s limits.capacity m
 Excluded s limits m (steps_spent limit) = length s.list ≤ limits.actions
 Excluded s limits m (deques_full deques) = Unit {0}
 
@@ -243,7 +243,7 @@ module _ (s : Setting) (some : 0 < s.quota) (list : IsDepthFirst s.quota s.list)
     (reaches : ReadyReaches s opening run m) (worker : ℕ) where
   -- an Alloc or a Fork that does not fit, though its words or the bound after it do
   no_filling : (place : ℕ) (after : Moment) → MayReady s m worker (does place) after → Fills s limits m place
-      → (total words_taken s.list ≤ limits.capacity) ⊎ CoversNext s limits.capacity m → ⊥
+      → (total words_taken s.list ≤ limits.capacity) ⊎ ReadyCoversNext s limits.capacity m → ⊥
   no_filling place after may fills (inl arena) =
       let most = arena_never_fills s some list run m after worker place reaches may in
       too_many (live_at s.list m) (weight_at s.list place) (words_at s.list place) (total words_taken s.list) limits.capacity most
@@ -286,7 +286,7 @@ module _ (s : Setting) (some : 0 < s.quota) (list : IsDepthFirst s.quota s.list)
   excluded limits words run last stop none plays =
       let reaches : ReadyReaches s opening run last = (plays_are_runs s limits words run last (stopped stop) plays).0 in
       let ready : IsReadyList s last = ready_along s list run opening last (opening_is_ready s list) reaches in
-      let cause : HasCause s limits words 0 opening run last (stopped stop) = endings_have_causes s limits words run last (stopped stop) plays in
+      let cause : ReadyHasCause s limits words 0 opening run last (stopped stop) = endings_have_causes s limits words run last (stopped stop) plays in
       let turn : ReadyTurn s words cause.0 last cause.1 = cause.2 in
       let below = in_range s.workers (words cause.0) (CanGo last) (cause.1).worker turn.first in
       let next = wanted_may_come s list last (cause.1).worker (cause.1).event ready below turn.wants in
@@ -295,18 +295,18 @@ module _ (s : Setting) (some : 0 < s.quota) (list : IsDepthFirst s.quota s.list)
   pub lists_never_fill : ListsNeverFill s
   lists_never_fill limits words run last deques plays = excluded limits words run last (deques_full deques) tt plays
 
-  pub actions_suffice : ActionsSuffice s
+  pub actions_suffice : ReadyActionsSuffice s
   actions_suffice limits words run last limit few plays = excluded limits words run last (steps_spent limit) few plays
 
-  pub arenas_with_room_last : ArenasWithRoomLast s
+  pub arenas_with_room_last : ReadyArenasWithRoomLast s
   arenas_with_room_last limits words run last live asked room plays = excluded limits words run last (arena_full live asked)
       (inl room) plays
 
-  pub arenas_with_the_bound_last : ArenasWithTheBoundLast s
+  pub arenas_with_the_bound_last : ReadyArenasWithTheBoundLast s
   arenas_with_the_bound_last limits words run last live asked covers plays =
       excluded limits words run last (arena_full live asked) (inr covers) plays
 
-  pub plays_finish : PlaysFinish s
+  pub plays_finish : ReadyPlaysFinish s
   plays_finish limits words run last ending arena actions plays = by_ending ending plays
     where
       by_ending : (ending : Ending) → ReadyPlays s limits words 0 opening run last ending → ending ≡ finished

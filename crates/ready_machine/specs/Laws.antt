@@ -32,52 +32,52 @@ BoundInReady s = (run : List Pair) (m : Moment) (n : ℕ) → ReadyReaches s ope
     → live_at s.list m ≤ℤ bound s.quota s.list (periods_ahead n m.books)
 
 -- the periods ahead are among the marked ones
-abbrev pub AheadIsMarked : Setting → Type 0
-AheadIsMarked s = (run : List Pair) (m : Moment) (n : ℕ) → ReadyReaches s opening run m → IsPrefix s.list (done_at m) n
+abbrev pub ReadyAheadIsMarked : Setting → Type 0
+ReadyAheadIsMarked s = (run : List Pair) (m : Moment) (n : ℕ) → ReadyReaches s opening run m → IsPrefix s.list (done_at m) n
     → periods_ahead n m.books ≤ periods_marked m.books
 
 -- the words in use are the sum of the moves
-abbrev pub MovesAreLive : Setting → Type 0
-MovesAreLive s = (run : List Pair) (m : Moment) → ReadyReaches s opening run m → live_words (moves s.list run) ≡ live_at s.list m
+abbrev pub ReadyMovesAreLive : Setting → Type 0
+ReadyMovesAreLive s = (run : List Pair) (m : Moment) → ReadyReaches s opening run m → live_words (moves s.list run) ≡ live_at s.list m
 
 -- the high-water mark is at most the peak, and two quotas for each marked period
-abbrev pub MarkedBound : Setting → Type 0
-MarkedBound s = (run : List Pair) (m : Moment) → ReadyReaches s opening run m
+abbrev pub ReadyMarkedBound : Setting → Type 0
+ReadyMarkedBound s = (run : List Pair) (m : Moment) → ReadyReaches s opening run m
     → high_water_mark s.list run ≤ℤ bound s.quota s.list (periods_marked m.books)
 
 -- along a run no mark is lost
-abbrev pub MarksNeverFall : Setting → Type 0
-MarksNeverFall s = (run : List Pair) (first last : Moment) → IsReadyList s first → ReadyReaches s first run last
+abbrev pub ReadyMarksNeverFall : Setting → Type 0
+ReadyMarksNeverFall s = (run : List Pair) (first last : Moment) → IsReadyList s first → ReadyReaches s first run last
     → periods_marked first.books ≤ periods_marked last.books
 
 -- Where an action may come that an arena with room for the peak and two quotas for each of so many periods refuses, more periods would be
 -- ahead after it.
-abbrev pub ArenaRefuses : Setting → Type 0
-ArenaRefuses s = (run : List Pair) (m after : Moment) (worker place n periods capacity : ℕ) → ReadyReaches s opening run m
+abbrev pub ReadyArenaRefuses : Setting → Type 0
+ReadyArenaRefuses s = (run : List Pair) (m after : Moment) (worker place n periods capacity : ℕ) → ReadyReaches s opening run m
     → MayReady s m worker (does place) after → bound s.quota s.list periods ≤ℤ pos capacity
     → pos capacity <ℤ (live_at s.list m +ℤ weight_at s.list place)
     → IsPrefix s.list (done_at after) n
     → periods < periods_ahead n after.books
 
 -- a run in which the root has ended did each action of the list just once
-abbrev pub EndedDidAll : Setting → Type 0
-EndedDidAll s = (run : List Pair) (m : Moment) → ReadyReaches s opening run m → HasEnded s m [] → (place : ℕ) → place < length s.list
+abbrev pub ReadyEndedDidAll : Setting → Type 0
+ReadyEndedDidAll s = (run : List Pair) (m : Moment) → ReadyReaches s opening run m → HasEnded s m [] → (place : ℕ) → place < length s.list
     → done_at m place ≡ 1
 
 -- where the quota covers a Fork, a run without a free give up has at most three events for each action of the list, and one for each worker
-abbrev pub RunsEnd : Setting → Type 0
-RunsEnd s = record_words ≤ s.quota → (run : List Pair) (m : Moment) (reaches : ReadyReaches s opening run m)
+abbrev pub ReadyRunsEnd : Setting → Type 0
+ReadyRunsEnd s = record_words ≤ s.quota → (run : List Pair) (m : Moment) (reaches : ReadyReaches s opening run m)
     → NoneGivenFree s opening run m reaches → length run ≤ 3 * length s.list + s.workers
 
 -- from a lawful ready list on, however it was reached, such a run has at most five events for each action that is done at its end, and two
 -- for each worker
-abbrev pub RunsAreShort : Setting → Type 0
-RunsAreShort s = record_words ≤ s.quota → (first last : Moment) (run : List Pair) (reaches : ReadyReaches s first run last)
+abbrev pub ReadyRunsAreShort : Setting → Type 0
+ReadyRunsAreShort s = record_words ≤ s.quota → (first last : Moment) (run : List Pair) (reaches : ReadyReaches s first run last)
     → IsReadyList s first → NoneGivenFree s first run last reaches → length run ≤ 5 * length (booked last.books) + 2 * s.workers
 
 -- what an action takes never fills an arena with room for all that the list takes
-abbrev pub ArenaNeverFills : Setting → Type 0
-ArenaNeverFills s = (run : List Pair) (m after : Moment) (worker place : ℕ) → ReadyReaches s opening run m
+abbrev pub ReadyArenaNeverFills : Setting → Type 0
+ReadyArenaNeverFills s = (run : List Pair) (m after : Moment) (worker place : ℕ) → ReadyReaches s opening run m
     → MayReady s m worker (does place) after
     → (live_at s.list m +ℤ weight_at s.list place) ≤ℤ pos (total words_taken s.list)
 

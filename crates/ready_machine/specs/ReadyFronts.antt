@@ -15,8 +15,8 @@ pub data ReadyPlaysOn (s : Setting) (limits : Limits) (words : ℕ → ℕ) : �
       → ReadyPlaysOn s limits words (suc n) next later drawn last → ReadyPlaysOn s limits words n m (pair ∷ later) drawn last
 
 -- a play that goes on from the front of a play is that play
-abbrev pub FrontsGoOn : Setting → Type 0
-FrontsGoOn s = (limits : Limits) (words : ℕ → ℕ) (n drawn : ℕ) (m here last : Moment) (front rest : List Pair) (ending : Ending)
+abbrev pub ReadyFrontsGoOn : Setting → Type 0
+ReadyFrontsGoOn s = (limits : Limits) (words : ℕ → ℕ) (n drawn : ℕ) (m here last : Moment) (front rest : List Pair) (ending : Ending)
     → ReadyPlaysOn s limits words n m front drawn here → ReadyPlays s limits words drawn here rest last ending
     → ReadyPlays s limits words n m (front ++ rest) last ending
 

@@ -21,18 +21,18 @@ abbrev pub ReplaysAreRuns : Setting → Type 0
 ReplaysAreRuns s = (pairs : List Pair) (last : Moment) → ready_replay s pairs ≡ Some last → ReadyReaches s opening pairs last
 
 -- at a lawful ready list an event of a worker leads to one moment
-abbrev pub OneWay : Setting → Type 0
-OneWay s = (m one other : Moment) (worker : ℕ) (event : Event) → IsReadyList s m → MayReady s m worker event one
+abbrev pub ReadyOneWay : Setting → Type 0
+ReadyOneWay s = (m one other : Moment) (worker : ℕ) (event : Event) → IsReadyList s m → MayReady s m worker event one
     → MayReady s m worker event other
     → one ≡ other
 
 -- a list of words picks one play
-abbrev pub OnePlay : Setting → Type 0
-OnePlay s = (limits : Limits) (words : ℕ → ℕ) (run run' : List Pair) (last last' : Moment) (ending ending' : Ending)
+abbrev pub ReadyOnePlay : Setting → Type 0
+ReadyOnePlay s = (limits : Limits) (words : ℕ → ℕ) (run run' : List Pair) (last last' : Moment) (ending ending' : Ending)
     → ReadyPlays s limits words 0 opening run last ending → ReadyPlays s limits words 0 opening run' last' ending'
     → (run ≡ run') × (last ≡ last') × (ending ≡ ending')
 
 -- what the computed play answers is the play
-abbrev pub PlayedIsPlay : Setting → Type 0
-PlayedIsPlay s = (limits : Limits) (words : ℕ → ℕ) (turns : ℕ) (played : Played) → ready_play s limits words turns 0 opening ≡ Some played
+abbrev pub ReadyPlayedIsPlay : Setting → Type 0
+ReadyPlayedIsPlay s = (limits : Limits) (words : ℕ → ℕ) (turns : ℕ) (played : Played) → ready_play s limits words turns 0 opening ≡ Some played
     → ReadyPlays s limits words 0 opening played.run played.last played.ending

@@ -3,7 +3,7 @@ use Rattle.std.proofs.Common.{◌≡◌, ◌≢◌, ℕ, ℤ, pos, negsuc, suc, 
 use Rattle.std.specs.Prelude.{codes}
 use Rattle.std.specs.Fmt.{decimal, signed_decimal}
 use Rattle.byte_cuts.specs.Lacks.{Lacks}
-use Rattle.run_report.specs.Shown.{Shown, InRange, IsWord, AreWords}
+use Rattle.run_report.specs.Shown.{ReportShown, InRange, IsWord, AreWords}
 use Rattle.run_report.specs.Texts.{line, text_of, finish_words, counted, report_lines, report_text}
 use Rattle.run_report.specs.Reading.{Begins, BreaksAt}
 use Rattle.byte_cuts.proofs.Cuts.{cut_once, lacks_from}
@@ -21,11 +21,11 @@ dashes (negsuc n) small e =
     (omega (arith, ap length e')) (ap (λ (l : List ℕ). get_or l 0 0) e')
 
 -- what stands behind the numbers of a report
-abbrev pub tail : Shown → List (List ℕ)
+abbrev pub tail : ReportShown → List (List ℕ)
 tail r =
     finish_words r.finish ∷ counted (codes "periods ") r.periods ∷ counted (codes "ahead ") r.ahead ∷ counted (codes "high ") r.high ∷ []
 
-pub lines_are : (r : Shown) → report_lines r ≡ map signed_decimal r.lines ++ codes "--" ∷ tail r
+pub lines_are : (r : ReportShown) → report_lines r ≡ map signed_decimal r.lines ++ codes "--" ∷ tail r
 lines_are r = append_assoc (map signed_decimal r.lines) (codes "--" ∷ finish_words r.finish ∷ []) _
 
 head_is : {A : Type 0} (a b : A) (ps qs : List A) → a ∷ ps ≡ b ∷ qs → a ≡ b
@@ -69,7 +69,7 @@ values_lack : (xs : List ℤ) → AreWords xs → AllLack (map signed_decimal xs
 values_lack [] ok = tt
 values_lack (x ∷ xs) ok = (lf_value x ok.0, values_lack xs ok.1)
 
-report_lacks : (r : Shown) → InRange r → AllLack (report_lines r)
+report_lacks : (r : ReportShown) → InRange r → AllLack (report_lines r)
 report_lacks r ok =
     subst AllLack (sym (lines_are r))
     (all_lack-append (map signed_decimal r.lines) (codes "--" ∷ tail r) (values_lack r.lines ok.lines) (
@@ -111,7 +111,7 @@ Stuck rest (z ∷ zs) = (more : List ℕ) → rest ≢ line z ++ more
 -- where no report goes on, the text breaks
 pub breaks_here :
     (text rest : List ℕ) (front : List (List ℕ)) → text ≡ text_of front ++ rest → Begins front →
-    ((r : Shown) (zs : List (List ℕ)) → InRange r → report_lines r ≡ front ++ zs → Stuck rest zs) → BreaksAt text rest
+    ((r : ReportShown) (zs : List (List ℕ)) → InRange r → report_lines r ≡ front ++ zs → Stuck rest zs) → BreaksAt text rest
 breaks_here text rest front spelled begins stuck = record {
   front = front;
   spelled = spelled;
@@ -129,7 +129,7 @@ breaks_here text rest front spelled begins stuck = record {
     ends [] stays e = stays e
     ends (z ∷ zs) stays e = stays (text_of zs) e
 
-    none : (r : Shown) → InRange r → text ≡ report_text r → ⊥
+    none : (r : ReportShown) → InRange r → text ≡ report_text r → ⊥
     none r ok e =
         let same = same_front front (report_lines r) rest front_lacks (report_lacks r ok) (sym spelled ∙ e) in
         ends same.0 (stuck r same.0 ok same.1.0) same.1.1

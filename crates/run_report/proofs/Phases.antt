@@ -7,7 +7,7 @@ use Rattle.std.proofs.lemmas.List.{map-append}
 use Rattle.dag_order.specs.declared.finish.Finish.{Finish}
 use Rattle.dag_order.specs.declared.finish.Finish.TheVariants.{Done}
 use Rattle.run_report.specs.Lines.{NoValue, NoFinish, NoCounted}
-use Rattle.run_report.specs.Shown.{Shown, InRange, IsWord, AreWords, HasLine}
+use Rattle.run_report.specs.Shown.{ReportShown, InRange, IsWord, AreWords, HasLine}
 use Rattle.run_report.specs.Texts.{line, text_of, finish_words, counted, report_lines, report_text}
 use Rattle.run_report.specs.Reading.{Begins, BreaksAt, IsFailure, place_in}
 use Rattle.run_report.specs.declared.read_fail.ReadFail.{ReadFail}
@@ -72,7 +72,7 @@ stops_at_values text rest xs spelled ok none bare =
     stays next more (inl is) behind e = bare behind (e ∙ ap (λ (l : List ℕ). line l ++ behind) is)
     stays next more (inr is) behind e = none is.0 behind is.1.0 (e ∙ ap (λ (l : List ℕ). line l ++ behind) is.1.1)
 
-    stuck : (r : Shown) (zs : List (List ℕ)) → InRange r → report_lines r ≡ map signed_decimal xs ++ zs → Stuck rest zs
+    stuck : (r : ReportShown) (zs : List (List ℕ)) → InRange r → report_lines r ≡ map signed_decimal xs ++ zs → Stuck rest zs
     stuck r zs okr e =
         let next = after_values xs r.lines (tail r) zs ok okr.lines (sym (lines_are r) ∙ e) in
         subst (λ (l : List (List ℕ)). Stuck rest l) (sym next.1.1.0) (stays next.0 next.1.0 next.1.1.1)
@@ -83,8 +83,8 @@ refused text rest fail is breaks = subst (λ (f : ReadFail). IsFailure text f) (
 
 -- behind `--`
 stops_behind :
-    (text rest : List ℕ) (r : Shown) (behind more : List (List ℕ)) → text ≡ text_of (up_to r.lines behind) ++ rest → InRange r →
-    tail r ≡ behind ++ more → ((s : Shown) (zs : List (List ℕ)) → InRange s → tail s ≡ behind ++ zs → Stuck rest zs) → BreaksAt text rest
+    (text rest : List ℕ) (r : ReportShown) (behind more : List (List ℕ)) → text ≡ text_of (up_to r.lines behind) ++ rest → InRange r →
+    tail r ≡ behind ++ more → ((s : ReportShown) (zs : List (List ℕ)) → InRange s → tail s ≡ behind ++ zs → Stuck rest zs) → BreaksAt text rest
 stops_behind text rest r behind more spelled ok front stuck =
     breaks_here text rest (up_to r.lines behind) spelled
     (r, (ok, (more, lines_are r ∙ ap (λ (ls : List (List ℕ)). map signed_decimal r.lines ++ codes "--" ∷ ls) front ∙ sym (append_assoc (map signed_decimal r.lines) (codes "--" ∷ behind) more))))
@@ -140,5 +140,5 @@ module _ (text rest : List ℕ) (xs : List ℤ) (ok : AreWords xs) where
               text ≡ text_of (up_to xs (finish_words f ∷ counted (codes "periods ") p ∷ counted (codes "ahead ") a ∷ counted (codes "high ") h ∷ [])) ++ rest →
               rest ≡ [] → text ≡ report_text (record { lines = xs; finish = f; periods = p; ahead = a; high = h })
           reads_all spelled none =
-              let r : Shown = record { lines = xs; finish = f; periods = p; ahead = a; high = h } in
+              let r : ReportShown = record { lines = xs; finish = f; periods = p; ahead = a; high = h } in
               spelled ∙ ap (λ (b : List ℕ). text_of (up_to xs (tail r)) ++ b) none ∙ append-nil (text_of (up_to xs (tail r))) ∙ ap text_of (sym (lines_are r))

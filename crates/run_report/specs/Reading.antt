@@ -1,17 +1,17 @@
 -- When bytes are no report, and where that shows.
 use Rattle.std.specs.Prelude.{◌≡◌, ℕ, List, [], ◌∷◌, ◌++◌, length, min, ◌-◌}
-use Rattle.run_report.specs.Shown.{Shown, InRange}
+use Rattle.run_report.specs.Shown.{ReportShown, InRange}
 use Rattle.run_report.specs.Texts.{line, text_of, report_lines, report_text}
 use Rattle.run_report.specs.declared.read_fail.ReadFail.{ReadFail}
 use Rattle.run_report.specs.declared.read_fail.ReadFail.TheVariants.{NotReport, OutOfMemory}
 
 -- some report begins with these lines
 abbrev pub Begins : List (List ℕ) → Type 0
-Begins lines = (r : Shown) × (InRange r × ((more : List (List ℕ)) × (report_lines r ≡ lines ++ more)))
+Begins lines = (r : ReportShown) × (InRange r × ((more : List (List ℕ)) × (report_lines r ≡ lines ++ more)))
 
 -- the bytes are the text of no report
 abbrev pub NoReport : List ℕ → Type 0
-NoReport text = (r : Shown) → InRange r → ¬ (text ≡ report_text r)
+NoReport text = (r : ReportShown) → InRange r → ¬ (text ≡ report_text r)
 
 -- the bytes are no report, and `rest` is where that shows: some report begins with the lines before it, and none
 -- goes on with the line that stands there. Where nothing stands there a line is missing, and where what stands there

@@ -6,7 +6,7 @@ use Rattle.dag_order.specs.declared.finish.Finish.{Finish}
 use Rattle.dag_order.specs.declared.finish.Finish.TheVariants.{Done, Faulted}
 use Rattle.dag_order.specs.declared.fault.FaultKind.{FaultKind}
 use Rattle.dag_order.specs.declared.fault.FaultKind.TheVariants.{Index, Divide, Size, Split, Depth, Turns}
-use Rattle.run_report.specs.Shown.{Shown}
+use Rattle.run_report.specs.Shown.{ReportShown}
 use Rattle.run_report.specs.declared.summary.Summary.{Summary}
 
 -- a line, ended by LF
@@ -40,12 +40,12 @@ abbrev pub outcome_lines : List ℤ → Finish → List (List ℕ)
 outcome_lines printed finish = map signed_decimal printed ++ codes "--" ∷ finish_words finish ∷ []
 
 -- the report of a run by the scheduler's workers
-abbrev pub report_lines : Shown → List (List ℕ)
+abbrev pub report_lines : ReportShown → List (List ℕ)
 report_lines r =
     outcome_lines r.lines r.finish ++
     counted (codes "periods ") r.periods ∷ counted (codes "ahead ") r.ahead ∷ counted (codes "high ") r.high ∷ []
 
-abbrev pub report_text : Shown → List ℕ
+abbrev pub report_text : ReportShown → List ℕ
 report_text r = text_of (report_lines r)
 
 -- the text of a depth-first run

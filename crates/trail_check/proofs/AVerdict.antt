@@ -30,7 +30,7 @@ use Rattle.trail_meaning.specs.declared.trail_kind.TrailKind.TheVariants.{Steal,
 use Rattle.trail_meaning.specs.declared.trail_numbers.TrailNumbers.{TrailNumbers}
 use Rattle.trail_check.specs.Following.{Tells, tells_steal, tells_action, tells_wait, tells_give_up, IsWithin, Leads, pair_of, Follows, stays, goes_on}
 use Rattle.trail_check.specs.Good.{IsGood}
-use Rattle.trail_check.specs.Verdicts.{AreNumbers, LeadsNowhere, Verdict, accepted, bad_event, not_ended, wrong_numbers, IsVerdict, is_accepted, is_bad, is_unended, is_wrong}
+use Rattle.trail_check.specs.Verdicts.{AreNumbers, LeadsNowhere, TrailVerdict, accepted, bad_event, not_ended, wrong_numbers, IsVerdict, is_accepted, is_bad, is_unended, is_wrong}
 use Rattle.trail_check.specs.GoodLaws.{AVerdict}
 use Rattle.trail_check.proofs.Steps.{one_id, leads_lawful}
 
@@ -253,11 +253,11 @@ same_or_not a b = elim (cases_eq a.periods b.periods) [
 
 module _ (s : Setting) (limits : Limits) (events : List TrailEvent) (numbers : TrailNumbers) where
   by_numbers : (run : List Pair) (last : Moment) → IsGood s limits events run last → (right : TrailNumbers) → AreNumbers s run last right → Decided (right ≡ numbers)
-      → (verdict : Verdict) × IsVerdict s limits events numbers verdict
+      → (verdict : TrailVerdict) × IsVerdict s limits events numbers verdict
   by_numbers run last good right are (inl same) = (accepted (length (booked last.books)), is_accepted run last good (subst (AreNumbers s run last) same are))
   by_numbers run last good right are (inr differ) = (wrong_numbers right, is_wrong run last right good are differ)
 
-  by_end : (run : List Pair) (last : Moment) → Follows s limits opening events run last → Decided (HasEnded s last []) → (verdict : Verdict) × IsVerdict s limits events numbers verdict
+  by_end : (run : List Pair) (last : Moment) → Follows s limits opening events run last → Decided (HasEnded s last []) → (verdict : TrailVerdict) × IsVerdict s limits events numbers verdict
   by_end run last follows (inl ended) =
       let right = numbers_of s run last in
       by_numbers run last (record { follows = follows; ended = ended }) right.0 right.1 (same_or_not right.0 numbers)

@@ -13,7 +13,7 @@ use Rattle.trail_meaning.specs.declared.trail_event.TrailEvent.{TrailEvent}
 use Rattle.trail_meaning.specs.declared.trail_numbers.TrailNumbers.{TrailNumbers}
 use Rattle.trail_check.specs.Following.{Leads, Follows, stays, goes_on}
 use Rattle.trail_check.specs.Good.{IsGood}
-use Rattle.trail_check.specs.Verdicts.{AreNumbers, LeadsNowhere, Verdict, accepted, bad_event, wrong_numbers, IsVerdict, is_accepted, is_bad, is_unended, is_wrong}
+use Rattle.trail_check.specs.Verdicts.{AreNumbers, LeadsNowhere, TrailVerdict, accepted, bad_event, wrong_numbers, IsVerdict, is_accepted, is_bad, is_unended, is_wrong}
 use Rattle.trail_check.specs.GoodLaws.{OneVerdict}
 use Rattle.trail_check.proofs.Steps.{one_lead, leads_lawful, one_run}
 
@@ -79,7 +79,7 @@ module _ (s : Setting) (some : 0 < s.quota) (list : IsDepthFirst s.quota s.list)
     same_numbers run run' last last' a b good good' x y =
         let same = one_last run run' last last' good.follows good'.follows in one_numbers s run run' last last' a b same.0 same.1 x y
 
-    one_of : (one other : Verdict) → IsVerdict s limits events numbers one → IsVerdict s limits events numbers other → one ≡ other
+    one_of : (one other : TrailVerdict) → IsVerdict s limits events numbers one → IsVerdict s limits events numbers other → one ≡ other
     one_of one other (is_accepted run last good are) (is_accepted run' last' good' are') =
         ap (λ x. accepted (length (booked x.books))) (one_last run run' last last' good.follows good'.follows).1
     one_of one other (is_accepted run last good are) (is_bad front back told begun m is there nowhere) = absurd (no_bad run last good.follows front back told begun m is there nowhere)

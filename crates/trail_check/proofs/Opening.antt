@@ -16,7 +16,7 @@ use Rattle.deque_machine.proofs.Kept.{opening_is_lawful}
 use Rattle.deque_machine.specs.Lists.{Each}
 use Rattle.trail_check.specs.Partners.{ArePartners}
 use Rattle.serial_journal.specs.Telling.{ShowsAction}
-use Rattle.serial_journal.specs.declared.action.Action.{Action as Shown}
+use Rattle.serial_journal.specs.declared.action.Action.{Action as ActionShown}
 use Rattle.trail_check.proofs.GrowingLists.{zip_length}
 use Rattle.trail_check.specs.declared.terms.Terms.{Terms}
 use Rattle.trail_check.specs.declared.checker.Checker.{Checker}
@@ -47,7 +47,7 @@ root_is_first k l run =
     by_label inside (child ∷ below) is = let f = fork_stands_before k l run 0 child [] below inside is in let lt = f.1 in absurd (omega (arith, lt))
 
 -- nothing of the numbers of the machine is lost
-pub opens : (s : Setting) (limits : Limits) (actions : List Shown) (partners : List (Option ℕ)) (terms : Terms) → IsGiven s limits actions partners terms → (c : Checker)
+pub opens : (s : Setting) (limits : Limits) (actions : List ActionShown) (partners : List (Option ℕ)) (terms : Terms) → IsGiven s limits actions partners terms → (c : Checker)
     → entries c.actions ≡ actions → c.partners.items ≡ partners → c.quota ≡ terms.quota → c.workers ≡ terms.workers → c.arena ≡ terms.arena → c.steps ≡ terms.steps
     → c.most ≡ terms.deques → c.deques.most ≡ terms.deques → c.deques.deques ≡ deque_with (deque_id 0) None (0 ∷ []) ∷ [] → c.seats.items ≡ replicate terms.workers None
     → c.waits.items ≡ replicate (length actions) false → IsBlank (length actions) c.tally → StandsFor s limits [] opening c

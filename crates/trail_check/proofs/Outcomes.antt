@@ -12,32 +12,32 @@ use Rattle.deque_machine.specs.Play.{Limits}
 use Rattle.deque_machine.specs.Runs.{Pair, high_water_mark}
 use Rattle.deque_machine.proofs.Reached.{marked_bound}
 use Rattle.trail_check.specs.Good.{IsGood}
-use Rattle.trail_check.specs.Verdicts.{AreNumbers, Verdict, accepted, bad_event, not_ended, wrong_numbers, IsVerdict, is_accepted}
+use Rattle.trail_check.specs.Verdicts.{AreNumbers, TrailVerdict, accepted, bad_event, not_ended, wrong_numbers, IsVerdict, is_accepted}
 use Rattle.trail_check.proofs.Steps.{are_run}
 use Rattle.trail_check.proofs.Bounded.{accepted_are_bounded}
 use Rattle.trail_check.proofs.OneVerdict.{one_verdict}
 use Rattle.trail_check.proofs.AVerdict.{a_verdict}
-use Rattle.trail_meaning.specs.Shown.{Shown}
+use Rattle.trail_meaning.specs.Shown.{TrailShown}
 use Rattle.trail_meaning.specs.declared.trail_event.TrailEvent.{TrailEvent}
 use Rattle.trail_meaning.specs.declared.trail_numbers.TrailNumbers.{TrailNumbers}
-use Rattle.trail_check.specs.Checking.{trail_terms, trail_machine, HasVerdict, Checks}
+use Rattle.trail_check.specs.Checking.{trail_terms, trail_machine, HasVerdict, ChecksTrail}
 use Rattle.trail_check.specs.CheckLaws.{IsAnswer, OneAnswer, AnAnswer, AcceptedTrailsAreBounded}
 use Rattle.trail_check.specs.declared.verify_fail.VerifyFail.{VerifyFail}
 use Rattle.trail_check.specs.declared.verify_fail.VerifyFail.TheVariants.{LongRun, BadEvent, NotEnded, WrongNumbers, OutOfMemory}
 
 -- the answer that gives a verdict
-abbrev answer_of : Verdict → Result ℕ VerifyFail
+abbrev answer_of : TrailVerdict → Result ℕ VerifyFail
 answer_of (accepted actions) = Ok actions
 answer_of (bad_event event) = Err (BadEvent event)
 answer_of (not_ended events) = Err (NotEnded events)
 answer_of (wrong_numbers right) = Err (WrongNumbers right)
 
 -- an answer refuses a long run, or gives a verdict
-data Says (c : Setting) (t : Shown) (answer : Result ℕ VerifyFail) : Type 0 where
+data Says (c : Setting) (t : TrailShown) (answer : Result ℕ VerifyFail) : Type 0 where
   of_long : t.steps < length (list_of c) → answer ≡ Err (LongRun t.steps) → Says c t answer
-  of_verdict : (v : Verdict) → HasVerdict c t v → answer ≡ answer_of v → Says c t answer
+  of_verdict : (v : TrailVerdict) → HasVerdict c t v → answer ≡ answer_of v → Says c t answer
 
-says : (c : Setting) (t : Shown) (answer : Result ℕ VerifyFail) → IsAnswer c t answer → Says c t answer
+says : (c : Setting) (t : TrailShown) (answer : Result ℕ VerifyFail) → IsAnswer c t answer → Says c t answer
 says c t (Ok actions) is = of_verdict (accepted actions) is.1 refl
 says c t (Err (LongRun limit)) is = of_long is.1.1 (ap (λ n. Err (LongRun n)) is.1.0)
 says c t (Err (BadEvent event)) is = of_verdict (bad_event event) is.1 refl
@@ -45,7 +45,7 @@ says c t (Err (NotEnded events)) is = of_verdict (not_ended events) is.1 refl
 says c t (Err (WrongNumbers right)) is = of_verdict (wrong_numbers right) is.1 refl
 says c t (Err OutOfMemory) is = absurd (is.0 refl)
 
-same : (c : Setting) (t : Shown) (one other : Result ℕ VerifyFail) → 0 < c.quota → Says c t one → Says c t other → one ≡ other
+same : (c : Setting) (t : TrailShown) (one other : Result ℕ VerifyFail) → 0 < c.quota → Says c t one → Says c t other → one ≡ other
 same c t one other some (of_long long is) (of_long long' is') = is ∙ sym is'
 same c t one other some (of_long long is) (of_verdict v has is') = let within = has.0 in absurd (omega (arith, long, within))
 same c t one other some (of_verdict v has is) (of_long long is') = let within = has.0 in absurd (omega (arith, long, within))
@@ -60,7 +60,7 @@ abbrev wanting : Result ℕ VerifyFail → Type 0
 wanting (Err OutOfMemory) = Unit {0}
 wanting other = ⊥
 
-no_want : (v : Verdict) → answer_of v ≢ Err OutOfMemory
+no_want : (v : TrailVerdict) → answer_of v ≢ Err OutOfMemory
 no_want (accepted actions) is = subst wanting (sym is) tt
 no_want (bad_event event) is = subst wanting (sym is) tt
 no_want (not_ended events) is = subst wanting (sym is) tt
@@ -69,7 +69,7 @@ no_want (wrong_numbers right) is = subst wanting (sym is) tt
 no_want_of_long : (limit : ℕ) → ◌≢◌ {A = Result ℕ VerifyFail} (Err (LongRun limit)) (Err OutOfMemory)
 no_want_of_long limit is = subst wanting (sym is) tt
 
-gives : (c : Setting) (t : Shown) (v : Verdict) → HasVerdict c t v → Checks c t (answer_of v)
+gives : (c : Setting) (t : TrailShown) (v : TrailVerdict) → HasVerdict c t v → ChecksTrail c t (answer_of v)
 gives c t (accepted actions) has = has
 gives c t (bad_event event) has = has
 gives c t (not_ended events) has = has

@@ -15,7 +15,7 @@ use Rattle.deque_machine.specs.Play.{words_taken, taken_by, Limits, Stop, arena_
 use Rattle.deque_machine.proofs.Reached.{event_writes}
 use Rattle.trail_check.specs.Following as trail
 use Rattle.trail_check.specs.Following.{Tells, tells_steal, tells_action, tells_wait, tells_give_up, IsWithin, Leads, Follows}
-use Rattle.trail_check.specs.Told.{kind_told, event_told, events_told}
+use Rattle.trail_check.specs.Told.{kind_told, event_in_trail, events_in_trail}
 use Rattle.trail_check.specs.GoodLaws.{PlaysAreFollowed}
 use Rattle.trail_check.proofs.Adding.{adds_to_books}
 
@@ -164,12 +164,12 @@ module _ (s : Setting) (limits : Limits) (m : Moment) where
 
 module _ (s : Setting) (limits : Limits) (words : ℕ → ℕ) where
   followed : (n : ℕ) (m : Moment) (run : List Pair) (last : Moment) (ending : Ending) → IsWithin s limits m → Plays s limits words n m run last ending
-      → Follows s limits m (events_told run) run last
+      → Follows s limits m (events_in_trail run) run last
   followed n m run last ending within (is_over n' m' has) = trail.stays m
   followed n m run last ending within (is_stopped n' m' pair stop turn meets) = trail.stays m
   followed n m run last ending within (goes_on n' m' next last' pair later ending' turn none may rest) =
       let there = stays_within s limits m pair.worker pair.event next may none within in
-      trail.goes_on m next last (event_told pair) pair.event (events_told later) later
+      trail.goes_on m next last (event_in_trail pair) pair.event (events_in_trail later) later
       (record { tells = wanted_is_told s m pair.worker (words (suc n)) pair.event turn.wants; may = may; within = there })
       (followed (n + words_drawn m pair.worker) next later last ending there rest)
 

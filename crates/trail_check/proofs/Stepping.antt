@@ -14,7 +14,7 @@ use Rattle.deque_machine.specs.Machine.{Setting}
 use Rattle.deque_machine.specs.Play.{Limits}
 use Rattle.deque_machine.specs.Runs.{Pair}
 use Rattle.serial_journal.specs.Telling.{ShowsAction}
-use Rattle.serial_journal.specs.declared.action.Action.{Action as Shown}
+use Rattle.serial_journal.specs.declared.action.Action.{Action as ActionShown}
 use Rattle.trail_check.proofs.GrowingLists.{zip_length, zip_at}
 use Rattle.trail_meaning.specs.declared.trail_kind.TrailKind.TheVariants.{Suspend}
 use Rattle.trail_check.specs.Verdicts.{LeadsNowhere}
@@ -35,7 +35,7 @@ module _ (s : Setting) (limits : Limits) (run : List Pair) (m : Moment) (c : Che
   pub as_long : length s.list ≡ length (entries c.actions)
   as_long = zip_length (ShowsAction (stands.knows).births) s.list (entries c.actions) (stands.knows).actions
 
-  pub shown_at : (place : ℕ) (action : Shown) → slice_get (entries c.actions) place ≡ Some action
+  pub shown_at : (place : ℕ) (action : ActionShown) → slice_get (entries c.actions) place ≡ Some action
       → (place < length s.list) × (action.kind ≡ kind_of (deed_at s.list place)) × (action.change ≡ weight_at s.list place)
   shown_at place action is = elim (cases_lt place (length (entries c.actions))) [
     | inr past ↦ absurd (true≢false (sym (ap is_some (sym (slice_get_past (entries c.actions) place past) ∙ is))))
@@ -65,7 +65,7 @@ module _ (s : Setting) (limits : Limits) (run : List Pair) (m : Moment) (c : Che
         (sits s limits run m c stands worker seat is).hand.holds
 
     -- a step
-    module _ (place : ℕ) (top : Some place ≡ Some (sits s limits run m c stands worker seat is).place) (action : Shown) (shown : slice_get (entries c.actions) place ≡ Some action) where
+    module _ (place : ℕ) (top : Some place ≡ Some (sits s limits run m c stands worker seat is).place) (action : ActionShown) (shown : slice_get (entries c.actions) place ≡ Some action) where
       here : place ≡ (sits s limits run m c stands worker seat is).place
       here = same_Some place (sits s limits run m c stands worker seat is).place top
 
@@ -132,7 +132,7 @@ module _ (s : Setting) (limits : Limits) (run : List Pair) (m : Moment) (c : Che
           ∙ ap (has_ended_by c) (sym at_top) ∙ some.3))
           (under_is ∙ alone) d same tally deques seats (waits ∙ ap (λ n. set c.waits.items n true) at_top)
 
-pub got_inside : (c : Checker) (place : ℕ) (action : Shown) → slice_get (entries c.actions) place ≡ Some action → place < length (entries c.actions)
+pub got_inside : (c : Checker) (place : ℕ) (action : ActionShown) → slice_get (entries c.actions) place ≡ Some action → place < length (entries c.actions)
 got_inside c place action is = elim (cases_lt place (length (entries c.actions))) [
   | inr past ↦ absurd (true≢false (sym (ap is_some (sym (slice_get_past (entries c.actions) place past) ∙ is))))
   | inl inside ↦ inside

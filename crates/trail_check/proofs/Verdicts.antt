@@ -9,14 +9,14 @@ use Rattle.depth_first_run.specs.Run.{list_of}
 use Rattle.deque_machine.specs.Machine.{Setting, HasEnded}
 use Rattle.deque_machine.specs.Play.{Limits}
 use Rattle.trail_check.specs.Verdicts.{AreNumbers, accepted, not_ended, wrong_numbers, IsVerdict, is_accepted, is_unended, is_wrong}
-use Rattle.trail_meaning.specs.Shown.{Shown}
+use Rattle.trail_meaning.specs.Shown.{TrailShown}
 use Rattle.trail_meaning.specs.declared.trail_event.TrailEvent.{TrailEvent}
 use Rattle.trail_meaning.specs.declared.trail_numbers.TrailNumbers.{TrailNumbers}
 use Rattle.trail_check.specs.declared.checker.Checker.{Checker}
 use Rattle.serial_journal.specs.Stops.{OnStop}
 use Rattle.serial_journal.specs.declared.serial_stop.SerialStop.{SerialStop}
 use Rattle.serial_journal.specs.declared.serial_stop.SerialStop.TheVariants as stops
-use Rattle.trail_check.specs.Checking.{trail_terms, trail_machine, fail_of, Checks}
+use Rattle.trail_check.specs.Checking.{trail_terms, trail_machine, fail_of, ChecksTrail}
 use Rattle.trail_check.specs.Judging.{HasFollowed, GivesVerdict}
 use Rattle.trail_check.specs.declared.verify_fail.VerifyFail.{VerifyFail}
 use Rattle.trail_check.specs.declared.verify_fail.VerifyFail.TheVariants.{LongRun, BadEvent, NotEnded, WrongNumbers, OutOfMemory}
@@ -69,8 +69,8 @@ fail_exit s limits events numbers (Ok n) e h gives = absurd h
 fail_exit s limits events numbers (Err fail) e h gives = subst (λ x. GivesVerdict s limits events numbers (Err x)) (sym h) gives
 
 -- the verdict on a trail is its answer, if the depth-first list is not longer than the trail allows
-pub checked : (c : program.Setting) (t : Shown) (result : Result ℕ VerifyFail) → length (list_of c) ≤ t.steps
-    → GivesVerdict (trail_machine c t) (trail_terms t).limits t.events t.numbers result → Checks c t result
+pub checked : (c : program.Setting) (t : TrailShown) (result : Result ℕ VerifyFail) → length (list_of c) ≤ t.steps
+    → GivesVerdict (trail_machine c t) (trail_terms t).limits t.events t.numbers result → ChecksTrail c t result
 checked c t (Ok actions) within gives = (within, gives)
 checked c t (Err (LongRun limit)) within gives = absurd gives
 checked c t (Err (BadEvent event)) within gives = (within, gives)
@@ -79,6 +79,6 @@ checked c t (Err (WrongNumbers numbers)) within gives = (within, gives)
 checked c t (Err OutOfMemory) within gives = tt
 
 -- and so is what is answered where the depth-first run was stopped
-pub stopped : (c : program.Setting) (t : Shown) (stop : SerialStop) → OnStop stop (t.steps < length (list_of c)) → Checks c t (Err (fail_of t.steps stop))
+pub stopped : (c : program.Setting) (t : TrailShown) (stop : SerialStop) → OnStop stop (t.steps < length (list_of c)) → ChecksTrail c t (Err (fail_of t.steps stop))
 stopped c t stops.StepsSpent long = (refl, long)
 stopped c t stops.OutOfMemory free = tt

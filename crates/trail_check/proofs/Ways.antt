@@ -13,7 +13,7 @@ use Rattle.deque_machine.specs.Runs.{Pair}
 use Rattle.trail_check.specs.Following.{Leads, pair_of, Follows, stays, goes_on}
 use Rattle.trail_check.specs.Verdicts.{LeadsNowhere, bad_event, IsVerdict, is_bad}
 use Rattle.serial_journal.specs.declared.action.Action.{Action}
-use Rattle.trail_meaning.specs.Shown.{Shown}
+use Rattle.trail_meaning.specs.Shown.{TrailShown}
 use Rattle.trail_meaning.specs.Ranges.{HasTrailRanges}
 use Rattle.trail_meaning.specs.declared.trail_event.TrailEvent.{TrailEvent}
 use Rattle.trail_meaning.specs.declared.trail_numbers.TrailNumbers.{TrailNumbers}
@@ -28,14 +28,14 @@ use Rattle.trail_check.specs.Checking.{trail_terms, trail_machine}
 use Rattle.trail_check.specs.Judging.{IsListOf, HasFollowed}
 
 -- the terms of a trail, as a checker takes them
-abbrev pub terms_of : Shown → Terms
+abbrev pub terms_of : TrailShown → Terms
 terms_of t = record { quota = t.k; workers = t.p; arena = t.arena; steps = t.steps; deques = t.deques }
 
 -- a written list is that of some quota and births
 pub listed : (c : program.Setting) (k : ℕ) (actions : List Action) → IsListOf c k actions → AreListed (list_of c) actions
 listed c k actions list = record { quota = c.quota; depth_first = whole_is_depth_first c; births = list.births; actions = list.shows }
 
-pub given : (c : program.Setting) (t : Shown) (actions : List Action) (partners : List (Option ℕ)) → HasTrailRanges t → IsListOf c t.k actions
+pub given : (c : program.Setting) (t : TrailShown) (actions : List Action) (partners : List (Option ℕ)) → HasTrailRanges t → IsListOf c t.k actions
     → ArePartners (list_of c) partners → IsGiven (trail_machine c t) (trail_terms t).limits actions partners (terms_of t)
 given c t actions partners ranges list are = let least = ((ranges.setting).quota).0 in let same = list.quota in record {
   some = omega (arith, least, same);

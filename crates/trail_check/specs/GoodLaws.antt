@@ -11,13 +11,13 @@ use Rattle.trail_meaning.specs.declared.trail_event.TrailEvent.{TrailEvent}
 use Rattle.trail_meaning.specs.declared.trail_numbers.TrailNumbers.{TrailNumbers}
 use Rattle.trail_check.specs.Following.{Leads, Follows}
 use Rattle.trail_check.specs.Good.{IsGood}
-use Rattle.trail_check.specs.Told.{events_told}
-use Rattle.trail_check.specs.Verdicts.{Verdict, IsVerdict}
+use Rattle.trail_check.specs.Told.{events_in_trail}
+use Rattle.trail_check.specs.Verdicts.{TrailVerdict, IsVerdict}
 
 -- if at least one deque is allowed, the events of each play that finishes are good, as a trail has them
 abbrev pub PlaysAreFollowed : Setting → Type 0
 PlaysAreFollowed s = (limits : Limits) (words : ℕ → ℕ) (run : List Pair) (last : Moment) → 0 < limits.deques
-    → Plays s limits words 0 opening run last finished → IsGood s limits (events_told run) run last
+    → Plays s limits words 0 opening run last finished → IsGood s limits (events_in_trail run) run last
 
 -- The words in use are at most the peak, and two quotas for each period that is ahead; the threads in the deques are in depth-first order,
 -- from left to right and from top to bottom; and no action was done twice.
@@ -67,10 +67,10 @@ RootEndsLast s = (limits : Limits) (events : List TrailEvent) (run : List Pair) 
 
 -- there is at most one verdict
 abbrev pub OneVerdict : Setting → Type 0
-OneVerdict s = (limits : Limits) (events : List TrailEvent) (numbers : TrailNumbers) (one other : Verdict)
+OneVerdict s = (limits : Limits) (events : List TrailEvent) (numbers : TrailNumbers) (one other : TrailVerdict)
     → IsVerdict s limits events numbers one → IsVerdict s limits events numbers other → one ≡ other
 
 -- and there is one
 abbrev pub AVerdict : Setting → Type 0
 AVerdict s = (limits : Limits) (events : List TrailEvent) (numbers : TrailNumbers)
-    → (verdict : Verdict) × IsVerdict s limits events numbers verdict
+    → (verdict : TrailVerdict) × IsVerdict s limits events numbers verdict

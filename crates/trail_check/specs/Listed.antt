@@ -5,10 +5,10 @@ use Rattle.dag_order.specs.declared.birth.Birth.{Birth}
 use Rattle.depth_first_list.specs.Actions.{Action}
 use Rattle.depth_first_list.specs.Runs.{IsDepthFirst}
 use Rattle.serial_journal.specs.Telling.{ShowsAction}
-use Rattle.serial_journal.specs.declared.action.Action.{Action as Shown}
+use Rattle.serial_journal.specs.declared.action.Action.{Action as ActionShown}
 
 -- these actions are a depth-first list, by some quota and by some births of its threads
-pub record AreListed (l : List Action) (shown : List Shown) : Type 0 where
+pub record AreListed (l : List Action) (shown : List ActionShown) : Type 0 where
   pub quota : ℕ
   pub depth_first : IsDepthFirst quota l
   pub births : List Birth

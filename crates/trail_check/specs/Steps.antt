@@ -9,7 +9,7 @@ use Rattle.dag_order.specs.declared.kind.Kind.{Kind}
 use Rattle.dag_order.specs.declared.kind.Kind.TheVariants.{Fork, Join, Alloc, Release, Dummy, End, Fault}
 use Rattle.deque_list.specs.declared.deque_id.DequeId.{DequeId}
 use Rattle.deque_machine.specs.Moments.{Moment, owned_by}
-use Rattle.serial_journal.specs.declared.action.Action.{Action as Shown}
+use Rattle.serial_journal.specs.declared.action.Action.{Action as ActionShown}
 use Rattle.deque_machine.specs.Machine.{Setting, Event, does, HasEnded, May}
 use Rattle.deque_machine.specs.Play.{Limits}
 use Rattle.deque_machine.specs.Runs.{Pair}
@@ -84,8 +84,8 @@ has_ended_by c join = done_by c (get_or c.partners.items join None)
 
 -- whether there is a Join at a place, of a child that has not ended by the bits
 abbrev pub Owes : Checker → ℕ → Bool → Type 0
-Owes c place true = (action : Shown) × (slice_get (entries c.actions) place ≡ Some action) × (action.kind ≡ Join) × (has_ended_by c place ≡ false)
-Owes c place false = (action : Shown) → slice_get (entries c.actions) place ≡ Some action → action.kind ≡ Join → has_ended_by c place ≡ true
+Owes c place true = (action : ActionShown) × (slice_get (entries c.actions) place ≡ Some action) × (action.kind ≡ Join) × (has_ended_by c place ≡ false)
+Owes c place false = (action : ActionShown) → slice_get (entries c.actions) place ≡ Some action → action.kind ≡ Join → has_ended_by c place ≡ true
 
 -- what a period has used after an action, if it fits the quota, and a child that it joins has ended by the bits
 abbrev pub UsedAfter : Checker → ℕ → ℕ → Kind → ℤ → Option ℕ → Type 0

@@ -13,9 +13,9 @@ kind_told (does place) = Act
 kind_told suspends = Suspend
 kind_told gives_up = GiveUp
 
-abbrev pub event_told : Pair → TrailEvent
-event_told pair = record { worker = pair.worker; kind = kind_told pair.event }
+abbrev pub event_in_trail : Pair → TrailEvent
+event_in_trail pair = record { worker = pair.worker; kind = kind_told pair.event }
 
 -- the events of a run, as a trail has them
-abbrev pub events_told : List Pair → List TrailEvent
-events_told run = map event_told run
+abbrev pub events_in_trail : List Pair → List TrailEvent
+events_in_trail run = map event_in_trail run

@@ -22,16 +22,16 @@ LeadsNowhere s limits m told = (event : Event) (next : Moment) → ¬ Leads s li
 
 -- What may be said of a trail: it is accepted, with its number of actions; the event of this number, from 1, is bad; its events have not
 -- ended, and are so many; or its numbers are wrong, and these are right.
-pub data Verdict : Type 0 where
-  accepted : ℕ → Verdict
-  bad_event : ℕ → Verdict
-  not_ended : ℕ → Verdict
-  wrong_numbers : TrailNumbers → Verdict
+pub data TrailVerdict : Type 0 where
+  accepted : ℕ → TrailVerdict
+  bad_event : ℕ → TrailVerdict
+  not_ended : ℕ → TrailVerdict
+  wrong_numbers : TrailNumbers → TrailVerdict
 
 -- The verdict on the events and the numbers of a trail: it is accepted if its events are good and the numbers are theirs; its first bad
 -- event is the first that leads nowhere; it has not ended if each event leads on, but the root has not ended; and its numbers are wrong if
 -- its events are good and the numbers are not theirs.
-pub data IsVerdict (s : Setting) (limits : Limits) (events : List TrailEvent) (numbers : TrailNumbers) : Verdict → Type 0 where
+pub data IsVerdict (s : Setting) (limits : Limits) (events : List TrailEvent) (numbers : TrailNumbers) : TrailVerdict → Type 0 where
   is_accepted : (run : List Pair) (last : Moment) → IsGood s limits events run last → AreNumbers s run last numbers
       → IsVerdict s limits events numbers (accepted (length (booked last.books)))
   is_bad : (front back : List TrailEvent) (told : TrailEvent) (run : List Pair) (m : Moment) → events ≡ front ++ told ∷ back

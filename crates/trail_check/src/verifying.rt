@@ -4,7 +4,7 @@ ghost use Rattle.par_tree.specs.View.{program_tree};
 ghost use Rattle.serial_meaning.specs.Settings.{setting_of};
 ghost use Rattle.trail_meaning.specs.Shown.{shown_by_trail};
 ghost use Rattle.trail_meaning.specs.Ranges.{HasTrailRanges};
-ghost use Rattle.trail_check.specs.Checking.{Checks, fail_of};
+ghost use Rattle.trail_check.specs.Checking.{ChecksTrail, fail_of};
 
 use crate::judging::judge;
 use crate::verify_fail::VerifyFail;
@@ -24,7 +24,7 @@ fn fail_of(stop: SerialStop, steps: u32) -> VerifyFail
     }
 }
 
-/// Checks a trail against the program of its source, and returns how many actions it did.
+/// ChecksTrail a trail against the program of its source, and returns how many actions it did.
 ///
 /// It runs the program depth-first, and follows the events over the actions of this run. Beside that run it takes time in proportion to the
 /// number of events, and for each steal to the number of deques.
@@ -38,7 +38,7 @@ fn fail_of(stop: SerialStop, steps: u32) -> VerifyFail
 /// - `OutOfMemory` if there is not enough memory.
 pub fn verify(alloc: Global, program: &Checked, trail: &Trail) -> Result<u32, VerifyFail>
     requires { HasTrailRanges (shown_by_trail trail.now) }
-    ensures { Checks (setting_of (program_tree (program_of program.now)) trail.now.k) (shown_by_trail trail.now) result }
+    ensures { ChecksTrail (setting_of (program_tree (program_of program.now)) trail.now.k) (shown_by_trail trail.now) result }
 {
     let Some(quota) = Quota::new(trail.k) else {
         unreachable!();

@@ -1,7 +1,7 @@
 -- The numbers that a trail may have.
 use Rattle.std.specs.Prelude.{◌≡◌, ℕ, ◌<◌, ◌≤◌, ◌%◌, ◌^◌, List, [], ◌∷◌, length}
 use Rattle.language_limits.specs.declared.TheConstants.{GREATEST_QUOTA, LEAST_QUOTA, LONGEST_TEXT, MOST_DEQUES, MOST_TRAIL_ACTIONS, MOST_WORDS, MOST_WORKERS}
-use Rattle.trail_meaning.specs.Shown.{Shown}
+use Rattle.trail_meaning.specs.Shown.{TrailShown}
 use Rattle.trail_meaning.specs.declared.trail_event.TrailEvent.{TrailEvent}
 use Rattle.trail_meaning.specs.declared.trail_kind.TrailKind.{TrailKind}
 use Rattle.trail_meaning.specs.declared.trail_kind.TrailKind.TheVariants.{Steal, Act, Suspend, GiveUp}
@@ -41,7 +41,7 @@ FitEvents p (event ∷ events) = FitsEvent p event × FitEvents p events
 abbrev pub FitNumbers : TrailNumbers → Type 0
 FitNumbers n = (n.periods < 2 ^ 64) × (n.ahead < 2 ^ 64) × (n.high < 2 ^ 64)
 
-pub record HasTrailRanges (t : Shown) : Type 0 where
+pub record HasTrailRanges (t : TrailShown) : Type 0 where
   pub setting : FitSetting t.k t.p t.arena t.steps t.deques
   pub source : length t.source ≤ LONGEST_TEXT
   pub events : FitEvents t.p t.events

@@ -6,7 +6,7 @@ use Rattle.trail_meaning.specs.declared.trail_event.TrailEvent.{TrailEvent}
 use Rattle.trail_meaning.specs.declared.trail_numbers.TrailNumbers.{TrailNumbers}
 
 -- the setting of a play, the bytes of its source, its events, and the numbers that it ended with
-pub record Shown : Type 0 where
+pub record TrailShown : Type 0 where
   pub k : ℕ
   pub p : ℕ
   pub arena : ℕ
@@ -16,7 +16,7 @@ pub record Shown : Type 0 where
   pub events : List TrailEvent
   pub numbers : TrailNumbers
 
-abbrev pub shown_by_trail : Trail → Shown
+abbrev pub shown_by_trail : Trail → TrailShown
 shown_by_trail t = record {
   k = t.k;
   p = t.p;

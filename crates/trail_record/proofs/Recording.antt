@@ -16,14 +16,14 @@ use Rattle.play_rules.specs.declared.ends.RunEnd.TheVariants.{Finished, Stopped}
 use Rattle.dfd_core.specs.Cores.{IsAt, SameSetting, end_of, terms_at, workers_of}
 use Rattle.dfd_core.specs.Plays.{IsDrawn}
 use Rattle.dfd_core.proofs.Underway.{Along, further, stopped_at, ended_at, lacks_at, same_setting, too_many as no_more_turns}
-use Rattle.trail_check.specs.Told.{event_told, events_told}
+use Rattle.trail_check.specs.Told.{event_in_trail, events_in_trail}
 use Rattle.trail_meaning.specs.declared.trail_event.TrailEvent.{TrailEvent}
 use Rattle.trail_record.specs.Turns.{with_event, TurnRecorded, RecordsTo, RecordsTurn}
 use Rattle.trail_record.specs.Recorded.{PlaysRecorded, PlaysInPart}
 
 -- the core has come along the front of its play, of which this is recorded
 abbrev pub AlongRecorded : Setting → Terms → (words : ℕ → ℕ) → (drawn events : ℕ) → Core → List Pair → Moment → List TrailEvent → Type 0
-AlongRecorded c terms words drawn events now run m told = (a : Along c terms words drawn events now run m) × (told ≡ events_told a.later)
+AlongRecorded c terms words drawn events now run m told = (a : Along c terms words drawn events now run m) × (told ≡ events_in_trail a.later)
 
 -- No end is kept. Of the words so many were drawn, and the coming ones are those behind. Since the start there were at least so many
 -- events, and they are recorded.
@@ -59,9 +59,9 @@ at_error Q P (Ok x) e is part = absurd is
 at_error Q P (Err y) e is part = part
 
 -- the record of one event more
-told_further : (later : List Pair) (pair : Pair) (told : List TrailEvent) (event : Option TrailEvent) → told ≡ events_told later → event ≡ Some (event_told pair)
-    → with_event told event ≡ events_told (later ++ pair ∷ [])
-told_further later pair told event is one = ap (with_event told) one ∙ ap (λ t. t ++ event_told pair ∷ []) is ∙ sym (map-append event_told later (pair ∷ []))
+told_further : (later : List Pair) (pair : Pair) (told : List TrailEvent) (event : Option TrailEvent) → told ≡ events_in_trail later → event ≡ Some (event_in_trail pair)
+    → with_event told event ≡ events_in_trail (later ++ pair ∷ [])
+told_further later pair told event is one = ap (with_event told) one ∙ ap (λ t. t ++ event_in_trail pair ∷ []) is ∙ sym (map-append event_in_trail later (pair ∷ []))
 
 recorded_prop : (c : Setting) (terms : Terms) (words coming : ℕ → ℕ) (after : Core) (run : List Pair) (m : Moment) (end : RunEnd) (told : List TrailEvent)
     → IsProp (PlaysRecorded c terms words coming after run m end told)
@@ -86,7 +86,7 @@ module _ (words coming later : ℕ → ℕ) (start now after : Core) (events : �
       told_further a.0.later g.goes.pair told event a.1 g.event_is,
     )
 
-    unchanged : event ≡ None → with_event told event ≡ events_told a.0.later
+    unchanged : event ≡ None → with_event told event ≡ events_in_trail a.0.later
     unchanged none = ap (with_event told) none ∙ a.1
 
     recorded_to : (end : RunEnd) → end_of after ≡ Some end → RecordsTo c (terms_at start) coming turn.drawn after (run ++ a.0.later) a.0.last event (Some end)

@@ -13,7 +13,7 @@ use Rattle.play_rules.specs.declared.ends.RunEnd.{RunEnd}
 use Rattle.play_rules.specs.declared.ends.RunEnd.TheVariants.{Finished, Stopped}
 use Rattle.dfd_core.specs.Cores.{IsAt, end_of}
 use Rattle.dfd_core.specs.Plays.{IsDrawn, PlaysToEnd, PlaysToStop, PlaysUntil}
-use Rattle.trail_check.specs.Told.{events_told}
+use Rattle.trail_check.specs.Told.{events_in_trail}
 use Rattle.trail_meaning.specs.declared.trail_event.TrailEvent.{TrailEvent}
 use Rattle.trail_record.specs.declared.recorded.Recorded.{Recorded}
 
@@ -25,15 +25,15 @@ KeepsEnd before after choices later result = (end : RunEnd) → end_of before �
 -- what a play comes to, by its end, and its events, as a trail has them
 abbrev pub PlaysRecorded : Setting → Terms → (words coming : ℕ → ℕ) → (after : Core) → List Pair → Moment → RunEnd → List TrailEvent → Type 0
 PlaysRecorded c terms words coming after run m (Finished finish) events =
-    ∥ ((p : PlaysToEnd c terms words coming after run m) × (events ≡ events_told p.later)) ∥₁
+    ∥ ((p : PlaysToEnd c terms words coming after run m) × (events ≡ events_in_trail p.later)) ∥₁
 PlaysRecorded c terms words coming after run m (Stopped (ArenaFull live asked)) events =
-    ∥ ((p : PlaysToStop c terms words coming after run m (play.arena_full (pos live) asked)) × (events ≡ events_told p.later)) ∥₁
+    ∥ ((p : PlaysToStop c terms words coming after run m (play.arena_full (pos live) asked)) × (events ≡ events_in_trail p.later)) ∥₁
 PlaysRecorded c terms words coming after run m (Stopped (DequesFull deques)) events =
-    ∥ ((p : PlaysToStop c terms words coming after run m (play.deques_full deques)) × (events ≡ events_told p.later)) ∥₁
+    ∥ ((p : PlaysToStop c terms words coming after run m (play.deques_full deques)) × (events ≡ events_in_trail p.later)) ∥₁
 PlaysRecorded c terms words coming after run m (Stopped (StepsSpent limit)) events =
-    ∥ ((p : PlaysToStop c terms words coming after run m (play.steps_spent limit)) × (events ≡ events_told p.later)) ∥₁
+    ∥ ((p : PlaysToStop c terms words coming after run m (play.steps_spent limit)) × (events ≡ events_in_trail p.later)) ∥₁
 PlaysRecorded c terms words coming after run m (Stopped OutOfMemory) events =
-    ∥ ((p : PlaysUntil c terms words coming after run m) × (events ≡ events_told p.later)) ∥₁
+    ∥ ((p : PlaysUntil c terms words coming after run m) × (events ≡ events_in_trail p.later)) ∥₁
 
 -- the front of the play, up to some moment: the core is at this moment, and the words come that the front did not draw
 pub record IsInPart (c : Setting) (terms : Terms) (words coming : ℕ → ℕ) (after : Core) (run : List Pair) (m : Moment) : Type 0 where

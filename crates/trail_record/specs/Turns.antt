@@ -13,7 +13,7 @@ use Rattle.scheduler_state.specs.declared.stepped.Stepped.TheVariants.{Stole, Ac
 use Rattle.dfd_core.specs.Cores.{IsAt, terms_at, end_of}
 use Rattle.dfd_core.specs.Plays.{TurnGoesOn, TurnsTo, IsDrawn}
 use Rattle.dfd_core.specs.Turns.{IsVictim}
-use Rattle.trail_check.specs.Told.{event_told}
+use Rattle.trail_check.specs.Told.{event_in_trail}
 use Rattle.trail_meaning.specs.declared.trail_event.TrailEvent.{TrailEvent}
 use Rattle.trail_meaning.specs.declared.trail_kind.TrailKind.{TrailKind}
 use Rattle.trail_meaning.specs.declared.trail_kind.TrailKind.TheVariants.{Steal, Act, Suspend, GiveUp}
@@ -45,7 +45,7 @@ with_event told (Some event) = told ++ event ∷ []
 pub record TurnRecorded (c : Setting) (terms : Terms) (words : ℕ → ℕ) (drawn : ℕ) (after : Core) (run : List Pair) (m : Moment)
     (event : Option TrailEvent) : Type 0 where
   pub goes : TurnGoesOn c terms words drawn after run m
-  pub event_is : event ≡ Some (event_told goes.pair)
+  pub event_is : event ≡ Some (event_in_trail goes.pair)
 
 -- what a turn comes to, by the end that is kept behind it, and what is recorded of it: its event, or nothing where it met a stop
 abbrev pub RecordsTo : Setting → Terms → (words : ℕ → ℕ) → (drawn : ℕ) → (after : Core) → List Pair → Moment → Option TrailEvent

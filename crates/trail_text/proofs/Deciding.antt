@@ -11,7 +11,7 @@ use Rattle.std.proofs.lemmas.List.{take-append-drop, length-take-le}
 use Rattle.byte_cuts.specs.Lacks.{Lacks}
 use Rattle.byte_cuts.proofs.Cuts.{cut_here}
 use Rattle.language_limits.specs.declared.TheConstants.{GREATEST_QUOTA, LEAST_QUOTA, LONGEST_TEXT, MOST_DEQUES, MOST_TRAIL, MOST_TRAIL_ACTIONS, MOST_WORDS, MOST_WORKERS}
-use Rattle.trail_meaning.specs.Shown.{Shown}
+use Rattle.trail_meaning.specs.Shown.{TrailShown}
 use Rattle.trail_meaning.specs.Ranges.{IsWithin, FitSetting, FitsKind, FitsEvent, FitEvents, FitNumbers}
 use Rattle.trail_meaning.specs.declared.trail_event.TrailEvent.{TrailEvent}
 use Rattle.trail_meaning.specs.declared.trail_kind.TrailKind.{TrailKind}
@@ -397,7 +397,7 @@ events_at (suc n) p bytes short within =
 
 -- a trail, or its refusal
 abbrev Reads : List ℕ → Type 0
-Reads text = ((t : Shown) × IsTrail text t) ⊎ ((at : ℕ) × IsRefused text at)
+Reads text = ((t : TrailShown) × IsTrail text t) ⊎ ((at : ℕ) × IsRefused text at)
 
 refuses : (text rest : List ℕ) → length text ≤ MOST_TRAIL → BreaksAt text rest → Reads text
 refuses text rest short breaks =

@@ -2,7 +2,7 @@
 use Rattle.std.proofs.Common.{◌≡◌, ℕ, List, [], ◌∷◌, ◌++◌, length, map, append_assoc, append-nil, ap, sym, ◌∙◌}
 use Rattle.std.specs.List.{concat}
 use Rattle.std.proofs.lemmas.List.Folds.{concat-append}
-use Rattle.trail_meaning.specs.Shown.{Shown}
+use Rattle.trail_meaning.specs.Shown.{TrailShown}
 use Rattle.trail_text.specs.TrailText.{head_line, source_front, source_line, event_line, end_line, trail_text}
 
 -- the last line joins what comes before it
@@ -21,7 +21,7 @@ regrouped a b c d = simp append_assoc
 
 -- the text of a trail, from what comes before its source, the source, and what comes after it
 pub written :
-    (t : Shown) (before text text' after : List ℕ) →
+    (t : TrailShown) (before text text' after : List ℕ) →
     before ≡ head_line t.k t.p t.arena t.steps t.deques ++ source_front (length t.source) → text ≡ before ++ t.source →
     text' ≡ text ++ after → after ≡ 10 ∷ (concat (map event_line t.events) ++ end_line t.numbers) → text' ≡ trail_text t
 written t before text text' after is_before is_text is_text' is_after =

@@ -3,7 +3,7 @@ use Rattle.std.proofs.Common.{◌≡◌, ◌≢◌, ℕ, ◌<◌, ◌^◌, ◌�
 use Rattle.std.specs.List.{concat}
 use Rattle.std.specs.Fmt.{decimal}
 use Rattle.std.proofs.lemmas.List.{append_cancel_left}
-use Rattle.trail_meaning.specs.Shown.{Shown}
+use Rattle.trail_meaning.specs.Shown.{TrailShown}
 use Rattle.trail_meaning.specs.Ranges.{FitsEvent, FitEvents, FitNumbers, HasTrailRanges}
 use Rattle.trail_meaning.specs.declared.trail_event.TrailEvent.{TrailEvent}
 use Rattle.trail_meaning.specs.declared.trail_numbers.TrailNumbers.{TrailNumbers}
@@ -58,7 +58,7 @@ tail_some p a (inr t) = omega (arith, ap length t.1.1)
 
 -- two trails that begin with the same lines go on with the same line, if the bytes are the same
 pub lines_once :
-    (t u : Shown) (front : List (List ℕ)) (a b : List ℕ) (more more' : List (List ℕ)) (x y : List ℕ) → HasTrailRanges t → HasTrailRanges u →
+    (t u : TrailShown) (front : List (List ℕ)) (a b : List ℕ) (more more' : List (List ℕ)) (x y : List ℕ) → HasTrailRanges t → HasTrailRanges u →
     trail_lines t ≡ front ++ a ∷ more → trail_lines u ≡ front ++ b ∷ more' → a ++ x ≡ b ++ y → a ≡ b
 lines_once t u [] a b more more' x y ok ok' et eu e =
     let same =
@@ -80,7 +80,7 @@ lines_once t u (h ∷ s ∷ front) a b more more' x y ok ok' et eu e =
     (tail_is u.p u.events u.numbers front b more' ok'.events ok'.numbers (others_are _ _ _ _ (others_are _ _ _ _ eu))) e
 
 pub line_some :
-    (t : Shown) (front : List (List ℕ)) (a : List ℕ) (more : List (List ℕ)) → HasTrailRanges t → trail_lines t ≡ front ++ a ∷ more → 0 < length a
+    (t : TrailShown) (front : List (List ℕ)) (a : List ℕ) (more : List (List ℕ)) → HasTrailRanges t → trail_lines t ≡ front ++ a ∷ more → 0 < length a
 line_some t [] a more ok e = omega (arith, ap length (first_is _ _ _ _ e))
 line_some t (h ∷ []) a more ok e = omega (arith, ap length (first_is _ _ _ _ (others_are _ _ _ _ e)))
 line_some t (h ∷ s ∷ front) a more ok e =
@@ -88,7 +88,7 @@ line_some t (h ∷ s ∷ front) a more ok e =
 
 -- lines at the front of a text are the first of its lines
 cut_after :
-    (t u : Shown) (done todo ahead left : List (List ℕ)) (rest : List ℕ) → HasTrailRanges t → HasTrailRanges u →
+    (t u : TrailShown) (done todo ahead left : List (List ℕ)) (rest : List ℕ) → HasTrailRanges t → HasTrailRanges u →
     trail_lines t ≡ done ++ (todo ++ ahead) → trail_lines u ≡ done ++ left → concat todo ++ rest ≡ concat left →
     (more : List (List ℕ)) × ((trail_lines u ≡ (done ++ todo) ++ more) × (rest ≡ concat more))
 cut_after t u done [] ahead left rest ok ok' et eu e = (left, (eu ∙ ap (λ (d : List (List ℕ)). d ++ left) (sym (append-nil done)), e))
@@ -105,7 +105,7 @@ cut_after t u done (a ∷ todo) ahead (b ∷ left) rest ok ok' et eu e =
     (more.0, (more.1.0 ∙ ap (λ (d : List (List ℕ)). d ++ more.0) (append_assoc done (a ∷ []) todo), more.1.1))
 
 pub cut_lines :
-    (t u : Shown) (front ahead : List (List ℕ)) (rest : List ℕ) → HasTrailRanges t → HasTrailRanges u → trail_lines t ≡ front ++ ahead →
+    (t u : TrailShown) (front ahead : List (List ℕ)) (rest : List ℕ) → HasTrailRanges t → HasTrailRanges u → trail_lines t ≡ front ++ ahead →
     concat front ++ rest ≡ trail_text u → (more : List (List ℕ)) × ((trail_lines u ≡ front ++ more) × (rest ≡ concat more))
 cut_lines t u front ahead rest ok ok' et e = cut_after t u [] front ahead (trail_lines u) rest ok ok' et refl e
 
@@ -117,7 +117,7 @@ Stuck rest (line ∷ lines) = (more : List ℕ) → rest ≢ line ++ more
 -- if no trail goes on, the text breaks
 pub breaks_here :
     (text rest : List ℕ) (front : List (List ℕ)) → text ≡ concat front ++ rest → Begins front →
-    ((t : Shown) (more : List (List ℕ)) → HasTrailRanges t → trail_lines t ≡ front ++ more → Stuck rest more) → BreaksAt text rest
+    ((t : TrailShown) (more : List (List ℕ)) → HasTrailRanges t → trail_lines t ≡ front ++ more → Stuck rest more) → BreaksAt text rest
 breaks_here text rest front spelled begins stuck = record {
   front = front;
   spelled = spelled;
@@ -131,7 +131,7 @@ breaks_here text rest front spelled begins stuck = record {
     ends [] stays e = stays e
     ends (line ∷ lines) stays e = stays (concat lines) e
 
-    none : (t : Shown) → HasTrailRanges t → text ≡ trail_text t → ⊥
+    none : (t : TrailShown) → HasTrailRanges t → text ≡ trail_text t → ⊥
     none t ok e =
         let same = cut_lines begins.0 t front begins.1.1.0 rest begins.1.0 ok begins.1.1.1 (sym spelled ∙ e) in
         ends same.0 (stuck t same.0 ok same.1.0) same.1.1

@@ -5,7 +5,7 @@ use Rattle.std.specs.List.{concat}
 use Rattle.std.proofs.lemmas.Bool.Decides.{nat_tests}
 use Rattle.std.proofs.lemmas.List.{map-append}
 use Rattle.language_limits.specs.declared.TheConstants.{LONGEST_TEXT, MOST_TRAIL}
-use Rattle.trail_meaning.specs.Shown.{Shown}
+use Rattle.trail_meaning.specs.Shown.{TrailShown}
 use Rattle.trail_meaning.specs.Ranges.{FitSetting, FitsEvent, FitEvents, FitNumbers, HasTrailRanges}
 use Rattle.trail_meaning.specs.declared.trail_event.TrailEvent.{TrailEvent}
 use Rattle.trail_meaning.specs.declared.trail_numbers.TrailNumbers.{TrailNumbers}
@@ -99,7 +99,7 @@ module _ (k p a s d : ℕ) (fits : FitSetting k p a s d) where
       (λ t more ok e. subst (λ (ls : List (List ℕ)). Stuck rest ls) (others_are _ _ _ _ e) (λ back is. none t.source back ok.source is))
 
   -- a trail with the same first line has as many workers
-  same_workers : (t : Shown) → HasTrailRanges t → head_line t.k t.p t.arena t.steps t.deques ≡ head_line k p a s d → t.p ≡ p
+  same_workers : (t : TrailShown) → HasTrailRanges t → head_line t.k t.p t.arena t.steps t.deques ≡ head_line k p a s d → t.p ≡ p
   same_workers t ok e = (head_once t.k t.p t.arena t.steps t.deques k p a s d [] [] ok.setting fits (ap (λ (l : List ℕ). l ++ []) e)).1
 
   short_count : p < 2 ^ 64
@@ -143,7 +143,7 @@ module _ (k p a s d : ℕ) (fits : FitSetting k p a s d) where
         (e2 ∙ ap (λ (l : List ℕ). source_line source ++ l) e3 ∙ sym (append_assoc (source_line source) (concat (map event_line events)) rest))
         ∙ sym (append_assoc (head_line k p a s d) (source_line source ++ concat (map event_line events)) rest)
 
-    abbrev recorded : TrailNumbers → Shown
+    abbrev recorded : TrailNumbers → TrailShown
     recorded n = record { k = k; p = p; arena = a; steps = s; deques = d; source = source; events = events; numbers = n }
 
     pub has_ranges : (n : TrailNumbers) → FitNumbers n → HasTrailRanges (recorded n)

@@ -2,7 +2,7 @@
 use Rattle.std.proofs.Common.{◌≡◌, ℕ, ◌<◌, ◌^◌, List, [], ◌∷◌, ◌++◌, length, append_assoc, append-nil, ap, sym, ◌∙◌, refl, subst, arith, length-append}
 use Rattle.std.specs.List.{concat}
 use Rattle.std.proofs.lemmas.List.{append_cancel_left}
-use Rattle.trail_meaning.specs.Shown.{Shown}
+use Rattle.trail_meaning.specs.Shown.{TrailShown}
 use Rattle.trail_meaning.specs.Ranges.{FitEvents, FitNumbers, HasTrailRanges}
 use Rattle.trail_meaning.specs.declared.trail_event.TrailEvent.{TrailEvent}
 use Rattle.trail_meaning.specs.declared.trail_numbers.TrailNumbers.{TrailNumbers}
@@ -29,7 +29,7 @@ tails_once p q (x ∷ events) (y ∷ others) n m short short' ok ok' okn okm e =
     (λ i. one.0 i ∷ more.0 i, more.1)
 
 -- lines are those of one trail
-same_lines : (t u : Shown) → HasTrailRanges t → HasTrailRanges u → trail_lines t ≡ trail_lines u → t ≡ u
+same_lines : (t u : TrailShown) → HasTrailRanges t → HasTrailRanges u → trail_lines t ≡ trail_lines u → t ≡ u
 same_lines t u ok ok' e =
     let head =
     head_once t.k t.p t.arena t.steps t.deques u.k u.p u.arena u.steps u.deques [] [] ok.setting ok'.setting
@@ -52,7 +52,7 @@ same_lines t u ok ok' e =
 
 -- no line is left where no byte is
 none_left :
-    (u : Shown) (front more : List (List ℕ)) → HasTrailRanges u → trail_lines u ≡ front ++ more → [] ≡ concat more → more ≡ []
+    (u : TrailShown) (front more : List (List ℕ)) → HasTrailRanges u → trail_lines u ≡ front ++ more → [] ≡ concat more → more ≡ []
 none_left u front [] ok is e = refl
 none_left u front (line ∷ more) ok is e =
     absurd (omega (arith, line_some u front line more ok is, ap length e, length-append line (concat more)))
@@ -67,7 +67,7 @@ one_trail text t u is is' =
 
 -- two fronts of a text that go on with no line of a trail are one front
 same_rest :
-    (t u : Shown) (done front front' ahead ahead' : List (List ℕ)) (rest rest' : List ℕ) → HasTrailRanges t → HasTrailRanges u →
+    (t u : TrailShown) (done front front' ahead ahead' : List (List ℕ)) (rest rest' : List ℕ) → HasTrailRanges t → HasTrailRanges u →
     trail_lines t ≡ done ++ (front ++ ahead) → trail_lines u ≡ done ++ (front' ++ ahead') → concat front ++ rest ≡ concat front' ++ rest' →
     ((next more : List ℕ) → rest ≡ next ++ more → ¬ Begins ((done ++ front) ++ next ∷ [])) →
     ((next more : List ℕ) → rest' ≡ next ++ more → ¬ Begins ((done ++ front') ++ next ∷ [])) → rest ≡ rest'

@@ -1,12 +1,12 @@
 -- Each text is the text of one trail, or is refused at one place.
 use Rattle.std.specs.Prelude.{◌≡◌, ℕ, ◌⊎◌, List}
-use Rattle.trail_meaning.specs.Shown.{Shown}
+use Rattle.trail_meaning.specs.Shown.{TrailShown}
 use Rattle.trail_text.specs.TrailText.{IsTrail}
 use Rattle.trail_text.specs.Reading.{IsRefused}
 
 -- bytes are the text of at most one trail
 abbrev pub OneTrail : Type 0
-OneTrail = (text : List ℕ) (t u : Shown) → IsTrail text t → IsTrail text u → t ≡ u
+OneTrail = (text : List ℕ) (t u : TrailShown) → IsTrail text t → IsTrail text u → t ≡ u
 
 -- they are refused at one place at most
 abbrev pub OnePlace : Type 0
@@ -14,8 +14,8 @@ OnePlace = (text : List ℕ) (at at' : ℕ) → IsRefused text at → IsRefused 
 
 -- never both
 abbrev pub NeverBoth : Type 0
-NeverBoth = (text : List ℕ) (t : Shown) (at : ℕ) → IsTrail text t → ¬ IsRefused text at
+NeverBoth = (text : List ℕ) (t : TrailShown) (at : ℕ) → IsTrail text t → ¬ IsRefused text at
 
 -- and always one of the two
 abbrev pub EachRead : Type 0
-EachRead = (text : List ℕ) → ((t : Shown) × IsTrail text t) ⊎ ((at : ℕ) × IsRefused text at)
+EachRead = (text : List ℕ) → ((t : TrailShown) × IsTrail text t) ⊎ ((at : ℕ) × IsRefused text at)

@@ -1,7 +1,7 @@
 -- When bytes are no trail, and the place of the line that shows it.
 use Rattle.std.specs.Prelude.{◌≡◌, ℕ, ◌<◌, ◌≤◌, ◌+◌, List, [], ◌∷◌, ◌++◌, length}
 use Rattle.std.specs.List.{concat}
-use Rattle.trail_meaning.specs.Shown.{Shown}
+use Rattle.trail_meaning.specs.Shown.{TrailShown}
 use Rattle.trail_meaning.specs.Ranges.{HasTrailRanges}
 use Rattle.language_limits.specs.declared.TheConstants.{MOST_TRAIL}
 use Rattle.trail_text.specs.TrailText.{trail_lines, trail_text}
@@ -10,11 +10,11 @@ use Rattle.trail_text.specs.declared.trail_fail.TrailFail.TheVariants.{NotTrail,
 
 -- some trail begins with these lines; the second one has the bytes of its source
 abbrev pub Begins : List (List ℕ) → Type 0
-Begins lines = (t : Shown) × (HasTrailRanges t × ((more : List (List ℕ)) × (trail_lines t ≡ lines ++ more)))
+Begins lines = (t : TrailShown) × (HasTrailRanges t × ((more : List (List ℕ)) × (trail_lines t ≡ lines ++ more)))
 
 -- the bytes are the text of no trail
 abbrev pub NoTrail : List ℕ → Type 0
-NoTrail text = (t : Shown) → HasTrailRanges t → ¬ (text ≡ trail_text t)
+NoTrail text = (t : TrailShown) → HasTrailRanges t → ¬ (text ≡ trail_text t)
 
 -- the bytes are the text of no trail, and `rest` begins with the first line that breaks the form: some trail begins with the
 -- lines before it, and no trail that does goes on with a line with which `rest` begins. If a line is missing, `rest` is empty.

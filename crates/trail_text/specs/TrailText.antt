@@ -2,7 +2,7 @@
 use Rattle.std.specs.Prelude.{◌≡◌, ℕ, ◌≤◌, List, [], ◌∷◌, ◌++◌, length, map, codes}
 use Rattle.std.specs.List.{concat}
 use Rattle.std.specs.Fmt.{decimal}
-use Rattle.trail_meaning.specs.Shown.{Shown}
+use Rattle.trail_meaning.specs.Shown.{TrailShown}
 use Rattle.trail_meaning.specs.Ranges.{HasTrailRanges}
 use Rattle.language_limits.specs.declared.TheConstants.{MOST_TRAIL}
 use Rattle.trail_meaning.specs.declared.trail_event.TrailEvent.{TrailEvent}
@@ -46,13 +46,13 @@ end_line n =
     codes "end periods " ⊕ decimal n.periods ⊕ codes " ahead " ⊕ decimal n.ahead ⊕ codes " high " ⊕ decimal n.high ⊕ codes "\n"
 
 -- the lines of a trail, each with its LF
-abbrev pub trail_lines : Shown → List (List ℕ)
+abbrev pub trail_lines : TrailShown → List (List ℕ)
 trail_lines t =
     head_line t.k t.p t.arena t.steps t.deques ∷ source_line t.source ∷ (map event_line t.events ++ end_line t.numbers ∷ [])
 
-abbrev pub trail_text : Shown → List ℕ
+abbrev pub trail_text : TrailShown → List ℕ
 trail_text t = concat (trail_lines t)
 
 -- the bytes are the text of this trail, whose numbers are in range
-abbrev pub IsTrail : List ℕ → Shown → Type 0
+abbrev pub IsTrail : List ℕ → TrailShown → Type 0
 IsTrail bytes t = HasTrailRanges t × (length bytes ≤ MOST_TRAIL) × (bytes ≡ trail_text t)

@@ -5,7 +5,7 @@ use Rattle.depth_first_list.specs.QuotaWords.{quota_words}
 use Rattle.par_tree.specs.View.{program_tree}
 use Rattle.serial_meaning.specs.Settings.{setting_of}
 use Rattle.trail_meaning.specs.Shown.{shown_by_trail}
-use Rattle.trail_check.specs.Checking.{Checks}
+use Rattle.trail_check.specs.Checking.{ChecksTrail}
 use Rattle.trail_check.proofs.WrittenLists.{written_at, list_written, long_at}
 use Rattle.trail_check.proofs.Verdicts.{checked, stopped}
 use Rattle.trail_check.proofs.verifying.verify.Goals as goal
@@ -28,6 +28,6 @@ returns-in-Ok c =
 pub returns-in-Err : goal.returns-in-Err
 returns-in-Err c =
     let p = program_tree (program_of c.args.program.now) in let k = c.args.trail.now.k in let t = shown_by_trail c.args.trail.now in
-    subst (λ fail. Checks (setting_of p k) t (Err fail)) (sym c.fail_of.ensures)
+    subst (λ fail. ChecksTrail (setting_of p k) t (Err fail)) (sym c.fail_of.ensures)
     (stopped (setting_of p k) t c.in-Err.stop
     (stopping _ _ c.in-Err.stop (long_at c.args.trail.now.steps p (quota_words c.in-Some.quota) k c.in-Some.ensures.words) c.in-Err.ensures))
