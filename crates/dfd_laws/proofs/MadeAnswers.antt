@@ -41,7 +41,8 @@ use Rattle.dfd_plays.specs.Peak.{finish_status}
 use Rattle.dfd_plays.specs.Play.{TellsEnding, play_setting, stop_status}
 use Rattle.dfd_plays.specs.Sources.{SourceGives}
 use Rattle.dfd_plays.specs.declared.status.Status.{Status}
-use Rattle.dfd_plays.specs.declared.status.Status.TheVariants.{Done, Usage, ReadFault, WriteFault, Syntax, Check, UserFault, StepsSpent, ArenaFull, DequesFull, OutOfMemory, TrailRefused}
+use Rattle.dfd_plays.specs.declared.status.Status.TheVariants.{Done, Usage, ReadFault, WriteFault, Syntax, Check, UserFault, StepsSpent, ArenaFull}
+use Rattle.dfd_plays.specs.declared.status.Status.TheVariants.{DequesFull, OutOfMemory, TrailRefused}
 use Rattle.dfd_laws.specs.MakeLaws.{IsMadeSummary, MadeSourcesAreAccepted, MadeSummariesAddUp, MakesMeetNoFault}
 use Rattle.dfd_laws.proofs.Statuses.{not_stopped}
 

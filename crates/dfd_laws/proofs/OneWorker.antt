@@ -1,5 +1,6 @@
 -- A ready list with one worker: no period is marked, and the actions come in the order of the depth-first list.
-use Rattle.std.proofs.Common.{◌≡◌, ℕ, suc, ◌+◌, ◌*◌, ◌≤◌, ◌<◌, List, [], ◌∷◌, ◌++◌, length, drop, map, append-nil, inl, inr, refl, sym, ap, subst, ◌∙◌, arith, true, false, true≢false, cond, nat_lt, ℤ, pos, ◌+ℤ◌, ◌≤ℤ◌}
+use Rattle.std.proofs.Common.{◌≡◌, ℕ, suc, ◌+◌, ◌*◌, ◌≤◌, ◌<◌, List, [], ◌∷◌, ◌++◌, length, drop, map, append-nil, inl, inr, refl, sym, ap, subst}
+use Rattle.std.proofs.Common.{◌∙◌, arith, true, false, true≢false, cond, nat_lt, ℤ, pos, ◌+ℤ◌, ◌≤ℤ◌}
 use Rattle.std.specs.Prelude.{Option, None, Some, nat_le, ◌||◌, filter}
 use Rattle.std.specs.Int.{int_max}
 use Rattle.std.proofs.lemmas.Bool.{cases_Bool, cases_lt, cases_eq, leb-false}
@@ -12,7 +13,9 @@ use Rattle.depth_first_list.proofs.Peak.{peak_is_highest}
 use Rattle.deque_machine.specs.Lists.{Each, times}
 use Rattle.deque_machine.specs.Books.{Book, booked, done_in, IsPrefix, goes_past, is_ahead, one_if_marked, periods_ahead, periods_marked, bound, book_of}
 use Rattle.deque_machine.specs.Moments.{Deque, Waiting, Moment, opening, moment_of, done_at, live_at}
-use Rattle.deque_machine.specs.Machine.{Setting, Event, steals, does, suspends, gives_up, Owns, HasEnded, books_with, books_closed, new_book, May, steals_beside, takes_over, forks_child, joins_child, allocates_within, allocates_above, releases_words, meets_fault, runs_dummy, ends_above_parent, ends_and_wakes, ends_and_leaves, suspends_top, gives_deque_up}
+use Rattle.deque_machine.specs.Machine.{Setting, Event, steals, does, suspends, gives_up, Owns, HasEnded, books_with, books_closed, new_book, May}
+use Rattle.deque_machine.specs.Machine.{steals_beside, takes_over, forks_child, joins_child, allocates_within, allocates_above, releases_words}
+use Rattle.deque_machine.specs.Machine.{meets_fault, runs_dummy, ends_above_parent, ends_and_wakes, ends_and_leaves, suspends_top, gives_deque_up}
 use Rattle.deque_machine.specs.Runs.{Pair, place_of, places_of, is_move, high_water_mark}
 use Rattle.deque_machine.proofs.Keeping.{times_append, done_more, closed_same, begun_same, prefix_of}
 use Rattle.deque_machine.proofs.Lists.{total_append, one_same, one_other}

@@ -1,8 +1,11 @@
 ghost use Rattle.dfd_plays.specs.Async.{AsyncMakes};
 ghost use Rattle.dfd_plays.specs.Play.{PlayMakes};
 ghost use Rattle.dfd_plays.specs.Threads.{RunMakes};
-ghost use Rattle.dfd_laws.specs.AsyncHeadline.{AsyncActionsSuffice, AsyncArenasStopLate, AsyncArenasSuffice, AsyncListsNeverFill, AsyncMomentsAreBounded, AsyncOfOneLastsAtThePeak, AsyncOfOneReportsThePeak, AsyncOfOneStaysLow, AsyncPlaysEnd, AsyncPlaysWithRoomFinish, AsyncStatusesWithRoom};
-ghost use Rattle.dfd_laws.specs.Headline.{PlayActionsSuffice, ArenasStopLate, ArenasSuffice, PlayDequesSuffice, MomentsAreBounded, AllPlaysEnd, PlaysWithRoomFinish, ReportsAreBounded, StatusesWithRoom, SummariesAreBounded};
+ghost use Rattle.dfd_laws.specs.AsyncHeadline.{AsyncActionsSuffice, AsyncArenasStopLate, AsyncArenasSuffice, AsyncListsNeverFill};
+ghost use Rattle.dfd_laws.specs.AsyncHeadline.{AsyncMomentsAreBounded, AsyncOfOneLastsAtThePeak, AsyncOfOneReportsThePeak, AsyncOfOneStaysLow};
+ghost use Rattle.dfd_laws.specs.AsyncHeadline.{AsyncPlaysEnd, AsyncPlaysWithRoomFinish, AsyncStatusesWithRoom};
+ghost use Rattle.dfd_laws.specs.Headline.{PlayActionsSuffice, ArenasStopLate, ArenasSuffice, PlayDequesSuffice, MomentsAreBounded, AllPlaysEnd};
+ghost use Rattle.dfd_laws.specs.Headline.{PlaysWithRoomFinish, ReportsAreBounded, StatusesWithRoom, SummariesAreBounded};
 ghost use Rattle.dfd_laws.specs.RunHeadline.{RunArenasStopLate, RunArenasSuffice, RunDequesSuffice, RunMomentsAreBounded};
 ghost use Rattle.dfd_laws.specs.Laws.{VerifiedTrailsAreBounded, CommandsHaveAnAnswer, CommandsHaveRanges, LoopsArePlays, CommandsHaveOneAnswer, RecordedTrailsAreAccepted};
 
