@@ -17,7 +17,8 @@
 //! [`thread_steps_are_of_the_run`] that a step of a thread over slots is the step of the depth-first run, where the row shows the store of
 //! a state and the thread's frames are the run's.
 //!
-//! `flat_code` makes such code of each list of a program's table, by Rust types of code and marks. Not there yet: the loop that runs it.
+//! `flat_code` has Rust types of code and marks, and makes such code of each list of a program's table, if the row has room for the
+//! temporary slots. Not there yet: the loop that runs it.
 //!
 //! # Why
 //!
