@@ -5,7 +5,8 @@
 //! is before the statement to which the place belongs. [`lower_expression`], [`lower_operand`] and [`lower_condition`] append the acts of an
 //! expression of the table, [`lower_whole`] makes the places of the body of a function, or of another list that a thread does not leave
 //! by itself. A statement that the flat machine leaves to the thread (an allocation, a release, a call, `print`, `par`, `split`) is one
-//! place at which flat code ends; what is inside a `par` or a `split` is a list of its own.
+//! place at which flat code ends; what is inside a `par` or a `split` is a list of its own. [`listing`] writes the places as a text, a line
+//! each.
 //!
 //! It builds on the node table (`node_table`), on frames (`thread_stack`), on straight code (`flat_expressions`) and on flat code as a
 //! definition (`flat_statements`).

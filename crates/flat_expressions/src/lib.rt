@@ -15,12 +15,13 @@
 //! assignments, of writes to blocks and of conditions, in the words in which flat code of statements needs it ([`assignments_have_code`],
 //! [`writes_have_code`], [`conditions_have_code`]). [`run`] does what straight code does to a row.
 //!
-//! Not there yet: the function that makes the acts of a node; writes to blocks as an [`Act`], since a row has no clause for them.
+//! `flat_code` makes the acts of an expression. Not there yet: writes to blocks as an [`Act`] that [`run`] does, since a row has no clause
+//! for them.
 //!
 //! # Why
 //!
-//! - **The code of an expression is a function of it**, so there is one for each expression and each slot, and the function that will
-//!   make it says which by an equation. What is asked of code is said apart from that (`specs/Meanings.antt`): any acts will do that do
+//! - **The code of an expression is a function of it**, so there is one for each expression and each slot, and the function that makes
+//!   it says which by an equation. What is asked of code is said apart from that (`specs/Meanings.antt`): any acts will do that do
 //!   to the function's slots what the definition says. So better code needs no other law above.
 //! - **Numbers are read off a row before names come in.** The value over a row has no names, so code and rows are compared without a
 //!   store, and one law takes the value to the store.

@@ -1,6 +1,6 @@
 //! Flat code of statements: what it is, and that it goes the way of a thread.
 //!
-//! The crate has definitions and laws alone so far. Flat code has acts one after another for all the statements of a function, with jumps
+//! The crate has definitions and laws alone. Flat code has acts one after another for all the statements of a function, with jumps
 //! in place of lists in lists (`specs/Flat.antt`). With each place goes its mark: the frames that a thread has inside its function where
 //! it is before the statement to which the place belongs. A machine that runs the code has a place, a row of slots and a number of
 //! turns; a thread has frames, the function's slots and its turns (`specs/Threads.antt`). Which code is that of a statement, of a list
@@ -17,7 +17,8 @@
 //! [`thread_steps_are_of_the_run`] that a step of a thread over slots is the step of the depth-first run, where the row shows the store of
 //! a state and the thread's frames are the run's.
 //!
-//! Not there yet: the Rust types of code and marks, the function that makes them of a node table, and the loop that runs them.
+//! `flat_code` has Rust types of code and marks, and makes such code of each list of a program's table, if the row has room for the
+//! temporary slots. Not there yet: the loop that runs it.
 //!
 //! # Why
 //!

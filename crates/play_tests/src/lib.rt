@@ -1,11 +1,13 @@
 //! Tests of runs: depth-first runs action by action, plays by both cores, of deques and of a ready list, by given words, and what cores show
-//! of their laws in the middle of plays. And node tables that are large.
+//! of their laws in the middle of plays. And node tables that are large, and flat code as a text.
 //!
-//! This crate has no code but tests. It uses the parser, the table, the depth-first run and the two cores of the scheduler. It has no
+//! This crate has no code but tests. It uses the parser, the table, flat code, the depth-first run and the two cores of the scheduler. It has no
 //! theorem: each table says what runs have to give, worked out by hand. Moments of plays were compared with `reference/`, which shares no
 //! line with the crates.
 #![tactic(auto)]
 
+#[cfg(test)]
+mod flat;
 #[cfg(test)]
 mod handed_over;
 #[cfg(test)]

@@ -36,7 +36,7 @@ fn repeated(rt: &impl Abort, alloc: Global, [front, piece, times, back]: [&str; 
 }
 
 /// The table of a text.
-fn code_of(rt: &impl Abort, alloc: Global, text: &str) -> Code {
+pub(crate) fn code_of(rt: &impl Abort, alloc: Global, text: &str) -> Code {
     let Ok(program) = accept(alloc, text.as_bytes()) else {
         panic!(rt; "an accepted text");
     };
