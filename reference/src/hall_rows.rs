@@ -20,6 +20,9 @@ const THREE_LINES: &str = "fn main() { par { print 1; } and { print 2; } print 3
 const TWO_BLOCKS: &str = "fn main() { par { alloc a = 16; free a; } and { alloc b = 16; free b; } }";
 const LARGE: &str = "fn main() { alloc b = 40; free b; }";
 const TWO_SIZES: &str = "fn main() { par { alloc a = 16; free a; } and { alloc b = 32; free b; } }";
+const FAULTED_CHILD: &str = "fn f(use u) { alloc n = 2; par { n[2] = 1; } and { u[0] = 1; } free n; } \
+    fn main() { alloc a = 1; alloc c = 1; call f(use a); free a; free c; }";
+const FAULTED_ROOT: &str = "fn main() { alloc a = 16; par { a[0] = 1; print 7; } and { print 1 / 0; } free a; }";
 const ARENA: u64 = 1_048_576;
 
 pub const HALL_ROWS: &[HallRow] = &[
@@ -131,6 +134,28 @@ pub const HALL_ROWS: &[HallRow] = &[
         "0 steal 0/0 act/0 enter/0 act/0 leave 1/1 steal 0/1 close",
         "stole 0 period 1/did Fork(1)/entered 1/stopped arena full live 16 asked 16/left/over arena full live 16 asked 16/\
          closed arena full live 16 asked 16 periods 1 ahead 0",
+    ),
+    HallRow(
+        "a child with a fault, at whose Join its parent gives its blocks back",
+        FAULTED_CHILD,
+        1024,
+        1,
+        ARENA,
+        64,
+        "0 steal 0/0 act/0 act/0 act/0 act/0 act/0 act/0 act/0 act/0 steal 0/0 close",
+        "stole 0 period 1/did Alloc/did Alloc/did Alloc/did Fork(1)/did Fault(Index)/did End/did Join(1)/did End/over finished/\
+         closed finished periods 1 ahead 0 root",
+    ),
+    HallRow(
+        "a root with a fault, which takes the result of its child from the list",
+        FAULTED_ROOT,
+        1024,
+        2,
+        ARENA,
+        64,
+        "0 steal 0/0 act/0 act/0 enter/1 steal 0/0 act/1 act/1 act/1 act/0 steal 0/1 leave 0/0 close",
+        "stole 0 period 1/did Alloc/did Fork(1)/entered 1/stole 1 period 2/did End/did Fault(Divide)/did Join(1)/did End/over finished/left/\
+         closed finished periods 2 ahead 1 root",
     ),
 ];
 

@@ -155,11 +155,11 @@ closed Finished(Done) periods 1 0 root |
 fn main() { par { alloc a = 16; free a; } and { alloc b = 16; free b; } }
 @ 1024 1 1024 64 | 0 steal/0 act/0 act/0 act/0 act/0 act/0 act/0 act/0 act/0 steal | |
 stole 0 1, did 0 0 0, did 0 0 1, did 0 0 2, did 0 0 3, did 1 0 0, did 1 0 1, did 0 0 4, did 0 0 5, \
-Over(Finished(Faulted(FaultAt { kind: Index, line: 1 }))), closed Finished(Faulted(FaultAt { kind: Index, line: 1 })) periods 1 0 root |
+Over(Finished(Faulted(FaultAt { kind: Index, line: 2 }))), closed Finished(Faulted(FaultAt { kind: Index, line: 2 })) periods 1 0 root |
 fn f(use u) { alloc n = 2; par { n[2] = 1; } and { u[0] = 1; } free n; } fn main() { alloc a = 1; alloc c = 1; call f(use a); free a; free c; }
 @ 1024 2 1024 64 | 0 steal/0 act/0 act/0 enter/1 steal/0 act/1 act/1 act/1 act/0 steal/1 leave 0 | |
 stole 0 1, did 0 0 0, did 0 0 1, entered 1, stole 1 2, did 1 0 0, did 0 0 2, did 0 0 3, did 0 0 4, \
-Over(Finished(Faulted(FaultAt { kind: Divide, line: 1 }))), left, closed Finished(Faulted(FaultAt { kind: Divide, line: 1 })) periods 2 1 root |
+Over(Finished(Faulted(FaultAt { kind: Divide, line: 2 }))), left, closed Finished(Faulted(FaultAt { kind: Divide, line: 2 })) periods 2 1 root |
 fn main() { alloc a = 16; par { a[0] = 1; print 7; } and { print 1 / 0; } free a; }
 ";
 
