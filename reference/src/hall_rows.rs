@@ -12,7 +12,7 @@ use crate::resolve::resolve;
 
 /// A row: its name, the source, the quota, the workers, the arena, the deques, the calls, and the answers.
 ///
-/// A call is the number of a seat and `enter`, `steal WORD`, `act`, `give-up`, `halt`, `leave INTO`, `close`, or `some TRIES`: so many events
+/// A call is the number of a seat and `enter`, `steal WORD`, `act`, `give-up`, `halt`, `leave INTO`, `close`, or `some TRIES`: so many tries
 /// with words of 0. `hold WORD` is a steal that stops once it holds the list; `go` is the rest of it.
 pub struct HallRow(pub &'static str, &'static str, u64, usize, u64, usize, &'static str, pub &'static str);
 
@@ -90,6 +90,16 @@ pub const HALL_ROWS: &[HallRow] = &[
         64,
         "0 some 3/0 some 10/0 close",
         "spent 3/over finished/closed finished periods 1 ahead 0 root",
+    ),
+    HallRow(
+        "two tries, of which one finds a stop, and one that keeps it",
+        LARGE,
+        64,
+        1,
+        32,
+        64,
+        "0 some 2/0 some 1/0 close",
+        "spent 1/over arena full live 0 asked 48/closed arena full live 0 asked 48 periods 1 ahead 0",
     ),
     HallRow(
         "five tries of an idle seat",
@@ -235,9 +245,10 @@ impl Scene<'_> {
         Ok(())
     }
 
-    /// So many events of a seat, each with a word of 0, up to a refusal or an end.
+    /// So many tries of a seat, each with a word of 0, up to a refusal or an end. A try that finds a stop does no event, and the next keeps it.
     fn some(&mut self, seat: usize, tries: u64) -> Result<String, String> {
-        for done in 0..tries {
+        let mut done = 0;
+        for _ in 0..tries {
             let view = &self.hall.seats[seat].view;
             let call = match (view.found, view.deque) {
                 (Some(_), _) => Call::Halt,
@@ -246,12 +257,15 @@ impl Scene<'_> {
             };
             let answer = self.whole(seat, call)?;
             match answer {
-                Answer::Refused(Refusal::Over(_)) => return Ok(self.shown(answer)),
+                Answer::Done(Told::Halted(end)) | Answer::Refused(Refusal::Over(end)) => {
+                    return Ok(format!("over {}", end_text(end)))
+                }
+                Answer::Refused(Refusal::Stopped(_)) => {}
                 Answer::Refused(_) => return Ok(format!("refused {done} {}", self.shown(answer))),
-                _ => {}
+                _ => done += 1,
             }
         }
-        Ok(format!("spent {tries}"))
+        Ok(format!("spent {done}"))
     }
 
     fn shown(&self, answer: Answer) -> String {

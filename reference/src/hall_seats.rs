@@ -1,12 +1,10 @@
 //! The law of the seats: their places and workers, the count word, the stops that they found, and what they were told.
 
-use crate::hall::{
-    lane_slot, Answer, End, Hall, LaneShown, ListShown, Look, Place, Running, Seat, Stop, Told, View, LIST, POOL,
-};
+use crate::hall::{lane_slot, Answer, End, Hall, ListShown, Look, Running, Seat, Stop, Told, View, LIST};
 use crate::hall_calls::{Call, Refusal};
+use crate::hall_looks::{list_seen, owner_acted, owner_refused, shows_unready, shows_victim, thief_tried};
 use crate::hall_machine::{must, Checked, Law};
 use crate::machine::Stop as RuleStop;
-use crate::thread::Next;
 use crate::trail::Kind;
 
 const SPENT: Option<Stop> = Some(Stop::ByRule(RuleStop::StepsSpent));
@@ -126,46 +124,40 @@ pub fn receipt(hall: &Hall, number: usize, answer: Answer) -> Checked {
 }
 
 fn event_shown(hall: &Hall, number: usize, running: &Running, looks: &[Look], told: Told) -> Checked {
+    if running.call != Call::Halt {
+        let is_open = list_seen(looks).is_none_or(|list| list.kept.is_none());
+        must(is_open, "an event comes of no look at a kept end")?;
+        must(hall.seats[number].view.found.is_none(), "a seat that found a stop does no event")?;
+    }
     match (running.call, told) {
         (Call::Steal(word), _) => {
             let step = hall.steps.iter().rev().find(|step| step.seat == number);
             let Some(Kind::Steal(place)) = step.map(|step| step.event) else { return must(false, "a steal is told as one") };
-            must(shows_victim(hall, word, looks, place), "the looks show the thief's choice")
+            must(shows_victim(&hall.rules, word, looks, place), "the looks show the thief's choice")?;
+            thief_tried(&hall.rules, word, looks)
         }
-        (Call::Act, _) => own_turns(hall, looks, told),
-        (Call::GiveUp | Call::Halt, _) => must(looks.len() <= 2, "a give up and a halt look at the own lane and the list"),
+        (Call::Act, _) => owner_acted(&hall.rules, looks, told),
+        (Call::GiveUp, Told::GaveUp(deque)) => {
+            let took_both = matches!(looks, [Look::Took(own, _), Look::Took(LIST, _)] if *own == lane_slot(deque));
+            must(took_both, "a give up looks at its own lane and the list")
+        }
+        (Call::GiveUp, _) => must(false, "a give up is told as one"),
+        (Call::Halt, _) => must(matches!(looks, [Look::Took(LIST, _)]), "a halt looks at the list"),
         _ => Ok(()),
     }
 }
 
-fn list_seen<'l, 'a>(looks: &'l [Look<'a>]) -> Option<&'l ListShown<'a>> {
-    looks.iter().find_map(|look| if let Look::Took(LIST, value) = look { Some(value.list()) } else { None })
-}
-
-fn lane_seen<'l, 'a>(looks: &'l [Look<'a>], slot: usize) -> Option<&'l LaneShown<'a>> {
-    looks.iter().find_map(|look| match look {
-        Look::Took(it, value) if *it == slot => Some(value.lane()),
-        _ => None,
-    })
-}
-
-fn shows_unready(looks: &[Look], place: Place) -> bool {
-    place.owner.is_some() && lane_seen(looks, lane_slot(place.deque)).is_some_and(|lane| lane.threads.len() < 2)
-}
-
-/// The victim was ready by these looks, and each place that its word tries before it was not.
-fn shows_victim(hall: &Hall, word: u64, looks: &[Look], victim: usize) -> bool {
-    let Some(list) = list_seen(looks) else { return false };
-    let tried = crate::machine::around(word, hall.rules.workers.min(list.places.len()));
-    let before: Vec<usize> = tried.take_while(|place| *place != victim).collect();
-    let Some(place) = list.places.get(victim) else { return false };
-    let is_ready =
-        place.owner.is_none() || lane_seen(looks, lane_slot(place.deque)).is_some_and(|lane| lane.threads.len() >= 2);
-    is_ready && victim < hall.rules.workers && before.iter().all(|it| shows_unready(looks, list.places[*it]))
-}
-
 fn refusal_shown(hall: &Hall, seat: &Seat, running: &Running, looks: &[Look], refusal: Refusal) -> Checked {
     let view = &seat.view;
+    if matches!(running.call, Call::Enter | Call::Steal(_) | Call::Act | Call::GiveUp) {
+        let is_open = list_seen(looks).is_none_or(|list| list.kept.is_none());
+        must(is_open || matches!(refusal, Refusal::Over(_)), "a look at a kept end is answered by it")?;
+    }
+    match running.call {
+        Call::Steal(word) => thief_tried(&hall.rules, word, looks)?,
+        Call::Act => owner_refused(&hall.rules, view.deque.map_or(LIST, lane_slot), looks, refusal)?,
+        _ => {}
+    }
     match refusal {
         Refusal::Busy { slot, seen } => {
             let is_last = matches!(looks.last(), Some(Look::Held { slot: it, seen: word }) if *it == slot && *word == seen);
@@ -194,35 +186,6 @@ fn refusal_shown(hall: &Hall, seat: &Seat, running: &Running, looks: &[Look], re
         }
         Refusal::NoMemory => Ok(()),
     }
-}
-
-/// An act takes turns only on the slots that its event needs, and its action is the next one of the thread that it saw.
-fn own_turns(hall: &Hall, looks: &[Look], told: Told) -> Checked {
-    let Some(Look::Took(own, value)) = looks.first() else { return must(false, "an act first takes its own lane") };
-    let lane = value.lane();
-    let top = &lane.threads[0];
-    let next = top.body.clone().next(hall.rules.quota, &mut Vec::new());
-    let newest = top.children.last().and_then(|child| child.result.as_ref());
-    let is_alone = lane.threads.len() == 1;
-    let (list, pool) = match told {
-        Told::Did(name) => {
-            must(name == (top.id, top.done), "an act does the next action of the thread that it saw on top")?;
-            let is_join = matches!(next, Next::Join(_));
-            let list = matches!(next, Next::Dummy) || (matches!(next, Next::End) && is_alone) || (is_join && newest.is_none());
-            let is_root_end = matches!(next, Next::End) && top.label.is_empty();
-            let releases = newest.is_none_or(|it| top.body.clone().do_join(it.body.clone()) > 0);
-            (list, !matches!(next, Next::Dummy) && !is_root_end && (!is_join || releases))
-        }
-        _ => (true, false),
-    };
-    let looked = |slot: usize| looks.iter().any(|look| matches!(look, Look::Took(it, _) if *it == slot));
-    let others = looks.iter().any(|look| matches!(look, Look::Took(it, _) if ![LIST, POOL, *own].contains(it)));
-    must(!others && (list || !looked(LIST)) && (pool || !looked(POOL)), "an act takes turns on the slots of its event alone")?;
-    let counts: Vec<u64> =
-        looks.iter().filter_map(|look| if let Look::Counted(it) = look { Some(*it) } else { None }).collect();
-    let is_drawn =
-        if matches!(told, Told::Did(_)) { counts.len() == 1 && counts[0] < hall.rules.steps } else { counts.is_empty() };
-    must(is_drawn, "an action draws one count below the limit, and nothing else does")
 }
 
 /// What a hall that was closed has to give.

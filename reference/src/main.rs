@@ -17,6 +17,7 @@ mod hall;
 mod hall_acts;
 mod hall_calls;
 mod hall_check;
+mod hall_looks;
 mod hall_machine;
 mod hall_order;
 mod hall_rows;
