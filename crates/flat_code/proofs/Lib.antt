@@ -4,4 +4,5 @@ pub mod More
 pub mod Acting
 pub mod OneNode
 pub mod MadeCode
+pub mod Forwards
 pub mod OfPrograms

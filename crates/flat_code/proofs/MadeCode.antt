@@ -12,7 +12,7 @@ use Rattle.flat_expressions.specs.Codes.{operand_of, slot_behind, more_links, co
 use Rattle.flat_expressions.proofs.Statements.{assignment_coded, write_coded, condition_coded}
 use Rattle.flat_statements.specs.Flat.{Flat, unless, rounds, FlatCode, frames_at}
 use Rattle.flat_statements.specs.Threads.{rest_of}
-use Rattle.flat_statements.specs.Codes.{Has, HasActs, IsSetCode, IsPutCode, IsTestCode, IsRoundCode, StatementCode, IsListCode, IsArmEnd, IsIfCode}
+use Rattle.flat_statements.specs.Codes.{Has, HasActs, HasAct, IsSetCode, IsPutCode, IsTestCode, IsRoundCode, StatementCode, IsListCode, IsArmEnd, IsIfCode}
 use Rattle.flat_statements.specs.Codes.{IsWhileCode, IsLeft, IsKindCode, IsNodeCode, IsWholeCode}
 use Rattle.flat_code.specs.Fits.{FitsSet, FitsPut, FitsTest, AllFit, FitsKind, FitsNode, FitsList, CanBeFlat}
 use Rattle.flat_code.specs.Made.{Placed, placed, acts_placed, tested, test_length, Making, list_made, arm_end, arm_end_length, other_at, if_made}
@@ -45,23 +45,19 @@ holds_acts f here place (a ∷ acts) h =
 
 -- ---- the code of an expression is not empty, so the mark of its first place is that of the statement
 
-abbrev Some_act : List Act → Type 0
-Some_act [] = ⊥
-Some_act (a ∷ acts) = Unit {0}
-
-some_behind : (xs ys : List Act) → Some_act ys → Some_act (xs ++ ys)
+some_behind : (xs ys : List Act) → HasAct ys → HasAct (xs ++ ys)
 some_behind [] ys h = h
 some_behind (x ∷ xs) ys h = tt
 
-some_last : (xs : List Act) (a : Act) → Some_act (xs ++ a ∷ [])
+some_last : (xs : List Act) (a : Act) → HasAct (xs ++ a ∷ [])
 some_last xs a = some_behind xs (a ∷ []) (tt {0})
 
-some_links : (ls : Links) (d k : ℕ) (a : Operand) → Some_act (links_code ls d k a)
+some_links : (ls : Links) (d k : ℕ) (a : Operand) → HasAct (links_code ls d k a)
 some_links last d k a = tt
 some_links (link op e ls) d k a =
     some_behind (operand_code e (suc k)) (operate_to op (slot_behind ls d k) a (operand_of e (suc k)) ∷ more_links ls (links_code ls d k (at_slot k))) (tt {0})
 
-some_code : (e : Expr) (d k : ℕ) → Some_act (code_of e d k)
+some_code : (e : Expr) (d k : ℕ) → HasAct (code_of e d k)
 some_code (num n) d k = tt
 some_code (var s) d k = tt
 some_code (get s i) d k = some_last (operand_code i k) (element_to d s (operand_of i k))
@@ -72,7 +68,7 @@ some_code (cmp op l r) d k =
     some_behind (operand_code l k) (operand_code r (suc k) ++ compare_to op d (operand_of l k) (operand_of r (suc k)) ∷ [])
     (some_last (operand_code r (suc k)) (compare_to op d (operand_of l k) (operand_of r (suc k))))
 
-first_acts : (f : FlatCode) (here : List Frame) (place : ℕ) (acts : List Act) → Some_act acts → Holds f place (acts_placed here acts)
+first_acts : (f : FlatCode) (here : List Frame) (place : ℕ) (acts : List Act) → HasAct acts → Holds f place (acts_placed here acts)
     → frames_at f place ≡ here
 first_acts f here place [] some h = absurd some
 first_acts f here place (a ∷ acts) some h = h.0.mark
@@ -95,9 +91,15 @@ module _ (f : FlatCode) (k size : ℕ) (fits_in : k ≤ size) where
       → IsSetCode f k size s e here place (place + length (acts_placed here (code_of e s k)))
   set_is_code s e here place fits h = record {
     code = code_of e s k;
+    some = some_code e s k;
     there = holds_acts f here place (code_of e s k) h;
     does = assignment_coded k size s e fits.1 fits.2 fits.0 fits_in;
   }
+
+  put_some : (b : ℕ) (i e : Expr) → HasAct (put_code b i e k)
+  put_some b i e =
+      some_behind (operand_code i k) (operand_code e (suc k) ++ write_at b (operand_of i k) (operand_of e (suc k)) ∷ [])
+      (some_last (operand_code e (suc k)) (write_at b (operand_of i k) (operand_of e (suc k))))
 
   put_is_code : (b : ℕ) (i e : Expr) (here : List Frame) (place : ℕ) → FitsPut k size b i e → Holds f place (acts_placed here (put_code b i e k))
       → IsPutCode f k size b i e here place (place + length (acts_placed here (put_code b i e k)))
@@ -106,14 +108,10 @@ module _ (f : FlatCode) (k size : ℕ) (fits_in : k ≤ size) where
       let front : k < size = omega (arith, room) in
       record {
         code = put_code b i e k;
+        some = put_some b i e;
         there = holds_acts f here place (put_code b i e k) h;
         does = write_coded k size b i e fits.2 fits.4 front fits.3 room fits.5 fits.1;
       }
-
-  put_some : (b : ℕ) (i e : Expr) → Some_act (put_code b i e k)
-  put_some b i e =
-      some_behind (operand_code i k) (operand_code e (suc k) ++ write_at b (operand_of i k) (operand_of e (suc k)) ∷ [])
-      (some_last (operand_code e (suc k)) (write_at b (operand_of i k) (operand_of e (suc k))))
 
   test_is_code : (e : Expr) (here : List Frame) (test : Flat) (place : ℕ) → FitsTest k size e → Holds f place (tested e k here test)
       → IsTestCode f k size e (test_of e k) here place (place + length (before_test e k)) × Has f (place + length (before_test e k)) test here

@@ -3,6 +3,7 @@
 ghost use Rattle.std.specs.Prelude.{◌↔◌, IfOk, IsTrue};
 ghost use Rattle.node_table.specs.Codes.{code_shown};
 ghost use Rattle.flat_statements.specs.Codes.{IsWholeCode};
+ghost use Rattle.flat_statements.specs.Forward.{IsForward};
 ghost use Rattle.flat_code.specs.Fits.{CanBeFlat};
 ghost use Rattle.flat_code.specs.Shown.{flat_shown};
 
@@ -39,7 +40,8 @@ pub fn lower_whole(
     size: u16,
 ) -> Result<Places, LowerFail>
     requires { CanBeFlat (code_shown code.now) slots size list }
-    ensures { IfOk result (λ v. IsWholeCode (code_shown code.now) (flat_shown v.items) slots size list 0) }
+    ensures code { IfOk result (λ v. IsWholeCode (code_shown code.now) (flat_shown v.items) slots size list 0) }
+    ensures forward { IfOk result (λ v. IsForward (flat_shown v.items)) }
 {
     let scope = Scope { code, slots, size };
     let none: &[Frame] = &[];

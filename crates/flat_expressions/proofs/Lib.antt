@@ -2,5 +2,4 @@ pub mod Rows
 pub mod Coded
 pub mod Statements
 pub mod Shown
-pub mod OneAct
 mod Examples

@@ -1,5 +1,5 @@
 -- What the values of the Rust types are, and what running them is.
-use Rattle.std.specs.Prelude.{◌≡◌, ℕ, ◌<◌, List, [], ◌∷◌, length, map, pos, Result, Ok, Err}
+use Rattle.std.specs.Prelude.{◌≡◌, ℕ, List, length, map, pos, Result, Ok, Err}
 use Rattle.dag_order.specs.declared.fault.FaultKind.{FaultKind}
 use Rattle.par_tree.specs.View.{chain_op_tree, cmp_op_tree}
 use Rattle.depth_first_run.specs.Values.{Outcome, operated, negated, compared, number_at}
@@ -43,10 +43,10 @@ number_by row (Negate d a) = negated (operand_in row (operand_shown a))
 number_by row (Operate op d a b) = operated (chain_op_tree op) (operand_in row (operand_shown a)) (operand_in row (operand_shown b))
 number_by row (Compare op d a b) = compared (cmp_op_tree op) (operand_in row (operand_shown a)) (operand_in row (operand_shown b))
 
--- each act leaves its number in one of so many slots
-abbrev pub LeaveBelow : ℕ → List Act → Type 0
-LeaveBelow size [] = Unit {0}
-LeaveBelow size (a ∷ acts) = (target_of a < size) × LeaveBelow size acts
+-- an act was done, which gives this; or it met a fault, and the row is as it was
+abbrev pub IsDone : Result (List Entry) FaultKind → (before : List Entry) → Result (Unit {0}) FaultKind → (after : List Entry) → Type 0
+IsDone (Ok row) before result after = (result ≡ Ok tt) × (after ≡ row)
+IsDone (Err kind) before result after = (result ≡ Err kind) × (after ≡ before)
 
 -- straight code ended, or met a fault, and this is the row that it left
 abbrev pub IsRun : Ran → Result (Unit {0}) FaultKind → List Entry → Type 0

@@ -13,10 +13,10 @@
 //! the expression over the row and changes no other slot of the function, or it meets the same fault and changes none. By
 //! [`rows_give_the_value`] this number is the value that the depth-first run gives over the store that the row shows. The same is said of
 //! assignments, of writes to blocks and of conditions, in the words in which flat code of statements needs it ([`assignments_have_code`],
-//! [`writes_have_code`], [`conditions_have_code`]). [`run`] does what straight code does to a row.
+//! [`writes_have_code`], [`conditions_have_code`]). [`do_act`] and [`write`] do one
+//! act to a row, and [`run`] what straight code does to it.
 //!
-//! `flat_code` makes the acts of an expression. Not there yet: writes to blocks as an [`Act`] that [`run`] does, since a row has no clause
-//! for them.
+//! `flat_code` makes the acts of an expression. A write to a block is no [`Act`]: it leaves no number, and one comes at most in a statement.
 //!
 //! # Why
 //!
@@ -39,4 +39,4 @@ pub use laws::{
     writes_have_code,
 };
 pub use operand::Operand;
-pub use running::run;
+pub use running::{do_act, read, run, write};

@@ -136,7 +136,7 @@ outer_again = record {
 }
 
 zero_code : (s place : ℕ) (here : List Frame) → s < 3 → Has flat place (zeroes s) here → IsSetCode flat 3 5 s (num (pos 0)) here place (suc place)
-zero_code s place here low h = record { code = move_to s (literal (pos 0)) ∷ []; there = (h, refl); does = zeroed s low }
+zero_code s place here low h = record { code = move_to s (literal (pos 0)) ∷ []; some = tt; there = (h, refl); does = zeroed s low }
 
 inner : IsNodeCode table flat 3 5 2 2 2 (in_outer (Statements (Then 1) 0)) (Again 0 ∷ []) 6
 inner = record {

@@ -1,5 +1,5 @@
 -- The machine follows the thread step by step.
-use Rattle.std.proofs.Common.{◌≡◌, ℕ, zero, suc, ◌+◌, Bool, true, false, List, [], ◌∷◌, ℤ, Option, Some, None, Result, Ok, Err, refl, sym, ap, ◌∙◌, subst}
+use Rattle.std.proofs.Common.{◌≡◌, ℕ, zero, suc, ◌+◌, ◌<◌, Bool, true, false, List, [], ◌∷◌, ℤ, Option, Some, None, Result, Ok, Err, refl, sym, ap, ◌∙◌, subst}
 use Rattle.dag_order.specs.declared.fault.FaultKind.{FaultKind}
 use Rattle.depth_first_run.specs.Values.{Outcome, is_true}
 use Rattle.node_table.specs.Table.{Expr, Kind, let_node, assign_node, put_node, alloc_node, free_node, if_node, while_node, call_node, print_node, both_node, split_node, Table}
@@ -12,17 +12,17 @@ use Rattle.thread_stack.specs.Lists.{kind_at, numbers_from}
 use Rattle.flat_expressions.specs.Acts.{Ran, ends, fails, straight, Test, passes}
 use Rattle.flat_expressions.specs.Values.{value_in, set_by, put_by}
 use Rattle.flat_expressions.specs.Meanings.{HasInFront, CameTo, TestCameTo}
-use Rattle.flat_statements.specs.Flat.{unless, rounds, leaves, FlatCode, Point, Came, goes_to, meets, stops, chosen, turned, rounded, flat_step, Runs, arrived, further}
+use Rattle.flat_statements.specs.Flat.{unless, rounds, leaves, FlatCode, Point, Came, goes_to, meets, stops, chosen, turned, rounded, flat_step, Runs, arrived}
 use Rattle.flat_statements.specs.Threads.{Standing, standing, rest_of, row_step, arm_step, if_step, turn_step, round_step, while_step, kind_step, list_step, frames_step, thread_step}
 use Rattle.flat_statements.specs.Codes.{IsTestCode, IsRoundCode, IsIfCode, IsAgainCode, IsLeft, IsKindCode, IsNodeCode}
 use Rattle.flat_statements.specs.Follows.{IsRestCode, IsLoopCode, IsCodeOf, StandsFor, Follows}
-use Rattle.flat_statements.proofs.Running.{point, runs_on, stepped, jumps_run, RunsTo, acts_run}
+use Rattle.flat_statements.proofs.Running.{point, runs_on, on_after, runs_further, acts_behind, stepped, jumps_run, RunsTo, acts_run}
 use Rattle.flat_statements.proofs.Reaching.{next_numbers, then_numbers, other_numbers, ReachesCode, list_reaches, arm_reaches, body_reaches}
 
 module _ (t : Table) (f : FlatCode) (k size : ℕ) where
   -- what it gives after some steps
   follows_behind : (p q : Point) (s : Standing) (c : Came Standing) → Runs f p q → Follows t f k size q s c → Follows t f k size p s c
-  follows_behind p q s (goes_to after) runs h = (h.0, runs_on runs h.1, h.2)
+  follows_behind p q s (goes_to after) runs h = (h.0, on_after runs h.1, h.2)
   follows_behind p q s (meets kind) runs h = (h.0, runs_on runs h.1, h.2, h.3)
   follows_behind p q s stops runs h = (h.0, runs_on runs h.1, h.2, h.3)
 
@@ -31,19 +31,20 @@ module _ (t : Table) (f : FlatCode) (k size : ℕ) where
       → ReachesCode t f k size xs place → HasInFront k size row own
       → Follows t f k size p s (goes_to (standing xs own turns))
   one_step p s place row own turns xs step reach front =
-      (point place row turns, further (point place row turns) step arrived, record { code = reach; front = front; turns = refl })
+      (point place row turns, record { next = point place row turns; first = step; rest = arrived }, record { code = reach; front = front; turns = refl })
 
   module _ (own : List Entry) (turns : ℕ) (here : List Frame) where
     -- ---- straight code
 
-    acts_follow : (xs : List Frame) (place behind : ℕ) (row : List Entry) → ReachesCode t f k size xs behind → (r : Ran) (o : Result (List Entry) FaultKind)
+    acts_follow : (xs : List Frame) (place behind : ℕ) (row : List Entry) → ReachesCode t f k size xs behind → place < behind
+        → (r : Ran) (o : Result (List Entry) FaultKind)
         → RunsTo f here behind turns place row r → CameTo k size own r o
         → Follows t f k size (point place row turns) (standing here own turns) (row_step xs turns o)
-    acts_follow xs place behind row reach (ends after) (Ok new) runs came =
-        (point behind after turns, runs, record { code = reach; front = came; turns = refl })
-    acts_follow xs place behind row reach (ends after) (Err kind) runs came = absurd came
-    acts_follow xs place behind row reach (fails kind after) (Ok new) runs came = absurd came
-    acts_follow xs place behind row reach (fails other after) (Err kind) runs came =
+    acts_follow xs place behind row reach ahead (ends after) (Ok new) runs came =
+        (point behind after turns, runs_further runs ahead, record { code = reach; front = came; turns = refl })
+    acts_follow xs place behind row reach ahead (ends after) (Err kind) runs came = absurd came
+    acts_follow xs place behind row reach ahead (fails kind after) (Ok new) runs came = absurd came
+    acts_follow xs place behind row reach ahead (fails other after) (Err kind) runs came =
         (point runs.0 after turns, runs.1, runs.2 ∙ ap (λ (x : FaultKind). meets x) came.0, record { mark = runs.3; front = came.1; turns = refl })
 
     -- ---- conditions
@@ -136,13 +137,13 @@ module _ (t : Table) (f : FlatCode) (k size : ℕ) where
           → Follows t f k size (point place row turns) (standing here own turns) (kind_step n xs own turns kind)
       kind_follows None row is h front = absurd h
       kind_follows (Some (let_node s e)) row is h front =
-          acts_follow xs place behind row reach (straight h.code row) (set_by s e own) (acts_run f here behind turns h.code place row h.there)
+          acts_follow xs place behind row reach (acts_behind f here h.code place behind h.some h.there) (straight h.code row) (set_by s e own) (acts_run f here behind turns h.code place row h.there)
           (h.does row own front)
       kind_follows (Some (assign_node s e)) row is h front =
-          acts_follow xs place behind row reach (straight h.code row) (set_by s e own) (acts_run f here behind turns h.code place row h.there)
+          acts_follow xs place behind row reach (acts_behind f here h.code place behind h.some h.there) (straight h.code row) (set_by s e own) (acts_run f here behind turns h.code place row h.there)
           (h.does row own front)
       kind_follows (Some (put_node b i e)) row is h front =
-          acts_follow xs place behind row reach (straight h.code row) (put_by b i e own) (acts_run f here behind turns h.code place row h.there)
+          acts_follow xs place behind row reach (acts_behind f here h.code place behind h.some h.there) (straight h.code row) (put_by b i e own) (acts_run f here behind turns h.code place row h.there)
           (h.does row own front)
       kind_follows (Some (if_node e a b)) row is h front = if_follows e a b row is h front
       kind_follows (Some (while_node e a)) row is h front = round_follows e a h.again_at h.body row is h.test h.again front

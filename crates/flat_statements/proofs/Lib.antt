@@ -1,6 +1,7 @@
 pub mod Running
 pub mod Reaching
 pub mod Following
+pub mod Ending
 pub mod Stepping
 pub mod Behind
 mod Examples

@@ -1,12 +1,12 @@
 -- The machine runs through straight code and jumps.
-use Rattle.std.proofs.Common.{◌≡◌, ℕ, zero, suc, List, [], ◌∷◌, Some, Result, Ok, Err, refl, ap, ◌∙◌, subst}
+use Rattle.std.proofs.Common.{◌≡◌, ℕ, zero, suc, ◌<◌, ◌≤◌, List, [], ◌∷◌, Some, Result, Ok, Err, refl, ap, ◌∙◌, subst, arith}
 use Rattle.dag_order.specs.declared.fault.FaultKind.{FaultKind}
 use Rattle.slot_store.specs.Rows.{Entry}
 use Rattle.thread_stack.specs.declared.frame.Frame.{Frame}
 use Rattle.flat_expressions.specs.Acts.{Act, act_on, Ran, ends, fails, next_act, straight}
 use Rattle.flat_statements.specs.Flat.{Flat, doing, jumps, FlatCode, frames_at, Point, goes_to, meets, acted, step_at, flat_step, Runs, arrived, further}
-use Rattle.flat_statements.specs.Codes.{Has, HasActs}
-use Rattle.flat_statements.specs.Follows.{Jumps}
+use Rattle.flat_statements.specs.Codes.{Has, HasActs, HasAct}
+use Rattle.flat_statements.specs.Follows.{Jumps, RunsOn}
 
 abbrev pub point : ℕ → List Entry → ℕ → Point
 point place row turns = record { place = place; row = row; turns = turns }
@@ -14,6 +14,25 @@ point place row turns = record { place = place; row = row; turns = turns }
 pub runs_on : {f : FlatCode} {p q r : Point} → Runs f p q → Runs f q r → Runs f p r
 runs_on arrived s = s
 runs_on (further q e h) s = further q e (runs_on h s)
+
+-- steps, and then one more at least
+pub on_after : {f : FlatCode} {p q r : Point} → Runs f p q → RunsOn f q r → RunsOn f p r
+on_after arrived s = s
+on_after (further q e h) s = record { next = q; first = e; rest = runs_on h (further s.next s.first s.rest) }
+
+-- steps to a later place are one at least
+pub runs_further : {f : FlatCode} {p q : Point} → Runs f p q → p.place < q.place → RunsOn f p q
+runs_further arrived less = absurd (omega (arith, less))
+runs_further (further q e h) less = record { next = q; first = e; rest = h }
+
+-- after acts, of which there is one, comes a later place
+acts_end : (f : FlatCode) (here : List Frame) (acts : List Act) (place behind : ℕ) → HasActs f here place acts behind → place ≤ behind
+acts_end f here [] place behind e = omega (arith, e)
+acts_end f here (a ∷ acts) place behind h = let later = acts_end f here acts (suc place) behind h.1 in omega (arith, later)
+
+pub acts_behind : (f : FlatCode) (here : List Frame) (acts : List Act) (place behind : ℕ) → HasAct acts → HasActs f here place acts behind → place < behind
+acts_behind f here [] place behind some h = absurd some
+acts_behind f here (a ∷ acts) place behind some h = let later = acts_end f here acts (suc place) behind h.1 in omega (arith, later)
 
 module _ (f : FlatCode) (here : List Frame) where
   -- the step at a place, by what is there

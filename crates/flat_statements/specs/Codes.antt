@@ -27,14 +27,21 @@ abbrev pub HasActs : FlatCode → (here : List Frame) → ℕ → List Act → (
 HasActs f here place [] behind = place ≡ behind
 HasActs f here place (a ∷ rest) behind = Has f place (doing a) here × HasActs f here (suc place) rest behind
 
+-- acts, of which there is one at least
+abbrev pub HasAct : List Act → Type 0
+HasAct [] = ⊥
+HasAct (a ∷ rest) = Unit {0}
+
 -- In a function with k slots, in a row of `size` slots. An assignment of the slot s, and a write to the block of the slot b.
 pub record IsSetCode (f : FlatCode) (k size : ℕ) (s : ℕ) (e : Expr) (here : List Frame) (place behind : ℕ) : Type 0 where
   pub code : List Act
+  pub some : HasAct code
   pub there : HasActs f here place code behind
   pub does : Do k size (set_by s e) code
 
 pub record IsPutCode (f : FlatCode) (k size : ℕ) (b : ℕ) (i e : Expr) (here : List Frame) (place behind : ℕ) : Type 0 where
   pub code : List Act
+  pub some : HasAct code
   pub there : HasActs f here place code behind
   pub does : Do k size (put_by b i e) code
 

@@ -38,6 +38,12 @@ pub data Came (A : Type 0) : Type 0 where
   meets : FaultKind → Came A
   stops : Came A
 
+-- it does not go on
+abbrev pub IsEnd : {A : Type 0} → Came A → Type 0
+IsEnd (goes_to x) = ⊥
+IsEnd (meets kind) = Unit {0}
+IsEnd stops = Unit {0}
+
 abbrev pub acted : Point → Result (List Entry) FaultKind → Came Point
 acted p (Ok row) = goes_to (record { place = suc p.place; row = row; turns = p.turns })
 acted p (Err kind) = meets kind

@@ -7,7 +7,7 @@ use Rattle.thread_stack.specs.declared.list_of.ListOf.{ListOf}
 use Rattle.thread_stack.specs.Lists.{kind_at, numbers_from}
 use Rattle.flat_expressions.specs.Meanings.{HasInFront}
 use Rattle.flat_statements.specs.Flat.{jumps, leaves, FlatCode, frames_at, Point, Came, goes_to, meets, stops, flat_step, Runs}
-use Rattle.flat_statements.specs.Threads.{Standing}
+use Rattle.flat_statements.specs.Threads.{Standing, thread_step}
 use Rattle.flat_statements.specs.Codes.{Has, StatementCode, IsListCode, IsAgainCode, IsNodeCode}
 
 -- so many jumps lead from a place to another; with all of them goes the same mark
@@ -69,9 +69,33 @@ pub record IsWithin (f : FlatCode) (k size : ℕ) (p : Point) (s : Standing) : T
   pub front : HasInFront k size p.row s.row
   pub turns : p.turns ≡ s.turns
 
+-- steps of the machine, of which there is one at least, lead from p to q
+pub record RunsOn (f : FlatCode) (p q : Point) : Type 0 where
+  pub next : Point
+  pub first : flat_step f p ≡ goes_to next
+  pub rest : Runs f next q
+
 -- What the machine does from p where one step of the thread s gives this: it represents the thread after the step; or it meets the
 -- same fault, or stops, within the statement, so that the thread is as it was.
 abbrev pub Follows : Table → FlatCode → (k size : ℕ) → Point → Standing → Came Standing → Type 0
-Follows t f k size p s (goes_to after) = (q : Point) × Runs f p q × StandsFor t f k size q after
+Follows t f k size p s (goes_to after) = (q : Point) × RunsOn f p q × StandsFor t f k size q after
 Follows t f k size p s (meets kind) = (q : Point) × Runs f p q × (flat_step f q ≡ meets kind) × IsWithin f k size q s
 Follows t f k size p s stops = (q : Point) × Runs f p q × (flat_step f q ≡ stops) × IsWithin f k size q s
+
+-- so many steps of a thread as lead from one standing to another
+pub data Steps (t : Table) : Standing → Standing → Type 0 where
+  stays : {s : Standing} → Steps t s s
+  onward : {s u : Standing} → (v : Standing) → thread_step t s ≡ goes_to v → Steps t v u → Steps t s u
+
+-- where the machine does not go on, this is what a thread's step gives that does not go on either
+abbrev pub IsSameEnd : Came Point → Came Standing → Type 0
+IsSameEnd (goes_to p) c = ⊥
+IsSameEnd (meets kind) c = c ≡ meets kind
+IsSameEnd stops c = c ≡ stops
+
+-- A thread has come from s to where it does not go on, in the way in which the machine at q does not: the machine is within its statement.
+pub record EndsWithin (t : Table) (f : FlatCode) (k size : ℕ) (q : Point) (s : Standing) : Type 0 where
+  pub at : Standing
+  pub way : Steps t s at
+  pub within : IsWithin f k size q at
+  pub same : IsSameEnd (flat_step f q) (thread_step t at)

@@ -12,11 +12,11 @@ use Rattle.thread_stack.specs.declared.frame.Frame.TheVariants.{Statements}
 use Rattle.thread_stack.specs.declared.list_of.ListOf.{ListOf}
 use Rattle.thread_stack.specs.Lists.{kind_at, numbers_from}
 use Rattle.thread_stack.specs.Frames.{AreFrames}
-use Rattle.flat_statements.specs.Flat.{FlatCode, frames_at, Point}
+use Rattle.flat_statements.specs.Flat.{FlatCode, frames_at, Point, IsEnd, flat_step, Runs}
 use Rattle.flat_statements.specs.Threads.{Standing, standing, rest_of, thread_step, with_behind}
 use Rattle.flat_statements.specs.Codes.{IsByItself, IsWholeCode}
 use Rattle.flat_statements.specs.Runs.{IsInState, IsStepOf}
-use Rattle.flat_statements.specs.Follows.{Reaches, IsCodeOf, StandsFor, Follows}
+use Rattle.flat_statements.specs.Follows.{Reaches, IsCodeOf, StandsFor, Follows, EndsWithin}
 
 -- where the machine represents a thread, the mark of its place is the frames of the thread
 abbrev pub MarksAreFrames : Type 0
@@ -27,6 +27,12 @@ MarksAreFrames =
 abbrev pub MachineFollowsTheThread : Type 0
 MachineFollowsTheThread =
     (t : Table) (f : FlatCode) (k size : ℕ) (p : Point) (s : Standing) → StandsFor t f k size p s → Follows t f k size p s (thread_step t s)
+
+-- where it has gone on until it stopped, so has the thread
+abbrev pub MachineEndsWithTheThread : Type 0
+MachineEndsWithTheThread =
+    (t : Table) (f : FlatCode) (k size : ℕ) (p q : Point) (s : Standing) → StandsFor t f k size p s → Runs f p q → IsEnd (flat_step f q)
+    → EndsWithin t f k size q s
 
 -- the code of a whole list begins with the code of the frames with which a thread begins the list
 abbrev pub WholeListsAreCode : Type 0

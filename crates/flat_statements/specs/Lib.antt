@@ -1,4 +1,5 @@
 pub mod Flat
+pub mod Forward
 pub mod Threads
 pub mod Codes
 pub mod Follows

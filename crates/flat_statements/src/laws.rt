@@ -1,4 +1,5 @@
-ghost use Rattle.flat_statements.specs.Laws.{MarksAreFrames, MachineFollowsTheThread, WholeListsAreCode, CodeGoesOn, FramesBehindStay, ThreadStepsAreOfTheRun};
+ghost use Rattle.flat_statements.specs.Laws.{MarksAreFrames, MachineFollowsTheThread, MachineEndsWithTheThread, WholeListsAreCode, CodeGoesOn};
+ghost use Rattle.flat_statements.specs.Laws.{FramesBehindStay, ThreadStepsAreOfTheRun};
 
 /// The mark of the machine's place is the frames of the thread that it represents.
 pub fn marks_are_frames()
@@ -8,6 +9,11 @@ pub fn marks_are_frames()
 /// The machine follows each step of a thread that it represents.
 pub fn machine_follows_the_thread()
     ensures { MachineFollowsTheThread }
+{}
+
+/// Where the machine has gone on until it stopped, so has the thread.
+pub fn machine_ends_with_the_thread()
+    ensures { MachineEndsWithTheThread }
 {}
 
 /// The code of a whole list begins where a thread begins the list.

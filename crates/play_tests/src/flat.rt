@@ -1,7 +1,13 @@
 //! Flat code of functions, as a text that was worked out by hand.
 
+ghost use Rattle.flat_statements.specs.Forward.{IsForward};
+ghost use Rattle.flat_code.specs.Shown.{flat_shown};
+
 use crate::tables::code_of;
-use flat_code::{can_be_flat, listing, lower_whole};
+use dag_order::FaultKind;
+use flat_code::{Places, can_be_flat, listing, lower_whole};
+use flat_run::{End, run_flat};
+use slot_store::Slots;
 use std::alloc::Global;
 use std::process::Abort;
 use thread_stack::ListOf;
@@ -70,19 +76,52 @@ const NUMBERS_LISTED: &str = "\
 13 leave
 ";
 
-/// The flat code of the body of a program's only function is this text, in a row with eight temporary slots.
-fn is_listed(rt: &impl Abort, alloc: Global, text: &str, due: &str) {
+/// How many slots the rows have: those of the functions, and temporary ones.
+const ROW: u16 = 11;
+
+/// The flat code of the body of a program's only function.
+fn places_of(rt: &impl Abort, alloc: Global, text: &str) -> Places
+    ensures { IsForward (flat_shown result.items) }
+{
     let code = code_of(rt, alloc, text);
     let Some(func) = code.func(0) else {
         panic!(rt; "a function");
     };
     let slots = func.slots;
-    let size = slots.saturating_add(8);
     let body = ListOf::Body(0);
-    assert!(rt; can_be_flat(&code, body, slots, size));
-    let places = lower_whole(alloc, &code, body, slots, size).expect(rt, "memory");
+    assert!(rt; can_be_flat(&code, body, slots, ROW));
+    let Ok(places) = lower_whole(alloc, &code, body, slots, ROW) else {
+        panic!(rt; "memory");
+    };
+    places
+}
+
+/// It is this text.
+fn is_listed(rt: &impl Abort, alloc: Global, text: &str, due: &str) {
+    let places = places_of(rt, alloc, text);
     let listed = listing(alloc, &places).expect(rt, "memory");
     assert!(rt; listed.as_bytes() == due.as_bytes(), "{}", listed);
+}
+
+/// Run from a place on with so many turns it stops at another place, with so many turns and this end, and leaves these integers in the first
+/// slots.
+fn stops_at(
+    rt: &impl Abort,
+    alloc: Global,
+    text: &str,
+    (from, turns): (usize, u32),
+    due: (usize, u32, End),
+    integers: &[i64],
+) {
+    let places = places_of(rt, alloc, text);
+    let mut row = Slots::new(alloc, ROW).expect(rt, "memory");
+    let stop = run_flat(&mut row, &places, from, turns);
+    assert!(rt; stop.place == due.0 && stop.turns == due.1 && stop.end == due.2);
+    let mut slot = 0u16;
+    for integer in integers {
+        assert!(rt; row.integer(slot) == *integer);
+        slot = slot.saturating_add(1);
+    }
 }
 
 #[test]
@@ -90,4 +129,29 @@ fn flat_code_is_listed(rt: HostRuntime) {
     let alloc = rt.alloc();
     is_listed(&rt, alloc, LOOPS, LOOPS_LISTED);
     is_listed(&rt, alloc, NUMBERS, NUMBERS_LISTED);
+}
+
+/// The loops take six turns, and end at `print`. With one turn less the last round of the outer one has none. A number is read where there is no
+/// block, since nothing has done the allocation.
+#[test]
+fn flat_code_runs(rt: HostRuntime) {
+    let alloc = rt.alloc();
+    stops_at(&rt, alloc, LOOPS, (0, 8), (10, 2, End::Leaves), &[0, 3]);
+    stops_at(
+        &rt,
+        alloc,
+        LOOPS,
+        (0, 5),
+        (9, 0, End::Faults(FaultKind::Turns)),
+        &[1, 3],
+    );
+    stops_at(&rt, alloc, LOOPS, (4, 2), (9, 0, End::Leaves), &[0, 2]);
+    stops_at(
+        &rt,
+        alloc,
+        NUMBERS,
+        (1, 0),
+        (7, 0, End::Faults(FaultKind::Index)),
+        &[0, 2, 8],
+    );
 }

@@ -8,7 +8,7 @@ ghost use Rattle.depth_first_run.specs.Values.{number_at, place_in};
 ghost use Rattle.slot_store.specs.Rows.{blocks_at, items_at, with_blocks_at, HasBlock, HasNone};
 ghost use Rattle.slot_store.specs.Shown.{slots_shown, blocks_seen};
 ghost use Rattle.slot_store.specs.Agreement.{ShowsStore};
-ghost use Rattle.slot_store.specs.Effects.{Puts};
+ghost use Rattle.slot_store.specs.Effects.{Puts, PutsAt};
 
 use crate::slots::Slots;
 use block_arena::Block;
@@ -102,6 +102,8 @@ impl Slots {
     /// `Index`, exactly outside the block. The slots are as they were.
     pub fn put(&mut self, slot: u16, index: i64, value: i64) -> Result<(), FaultKind>
         requires { slot < length (slots_shown self.old) }
+        ensures row { PutsAt slot value (place_in (items_at (slots_shown self.old) slot) index) (slots_shown self.old) result
+            (slots_shown self.new) }
         ensures store { (names : List Name) (store : Store) → ShowsStore names (slots_shown self.old) store
             → Puts names (name_at names slot) value (place_in (block_of store.blocks (name_at names slot)) index) store result
             (slots_shown self.new) }

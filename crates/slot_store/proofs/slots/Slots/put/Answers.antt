@@ -7,7 +7,7 @@ use Rattle.depth_first_run.specs.Values.{place_in}
 use Rattle.slot_store.specs.Rows.{Entry, items_at, with_blocks_at}
 use Rattle.slot_store.specs.Shown.{slots_shown}
 use Rattle.slot_store.specs.Agreement.{ShowsStore}
-use Rattle.slot_store.specs.Effects.{Puts}
+use Rattle.slot_store.specs.Effects.{Puts, PutsAt}
 use Rattle.slot_store.proofs.Rows.{one_block, block_or_none}
 use Rattle.slot_store.proofs.Agreement.{is_named, items_are, shows_write}
 use Rattle.slot_store.proofs.slots.Slots.put.Goals as goal
@@ -48,3 +48,21 @@ returns-clause-store c names store shows =
           (shows_write names row store shows s below (items_at row s) (slice_set items place c.args.value)
           (one_block row s place some (block_or_none c.args.self.now.slots.items s))),
     )
+
+pub returns-in_default-clause-row : goal.returns-in_default-clause-row
+returns-in_default-clause-row c =
+    let row = slots_shown c.args.self.now in
+    let s = c.args.slot in
+    let items = items_at row s in
+    let at = c.in_default.ensures.value items (sym c.length.ensures.row) ∙ ap (λ i. place_in items i) (to_z-of_z w64 c.args.index c.ranges.index) in
+    subst (λ (p : Option ℕ). PutsAt s c.args.value p row (Err faults.Index) row) at (refl, refl)
+
+pub returns-clause-row : goal.returns-clause-row
+returns-clause-row c =
+    let row = slots_shown c.args.self.now in
+    let s = c.args.slot in
+    let items = items_at row s in
+    let place = c.in-Some.place in
+    let at = c.in-Some.ensures.value items (sym c.length.ensures.row) ∙ ap (λ i. place_in items i) (to_z-of_z w64 c.args.index c.ranges.index) in
+    let written = c.write.ensures ∙ ap (λ (v : ℤ). with_blocks_at row s (slice_set items place v ∷ [])) (to_z-of_z w64 c.args.value c.ranges.value) in
+    subst (λ (p : Option ℕ). PutsAt s c.args.value p row (Ok tt) (slots_shown c.write.new.self)) at (refl, written)
