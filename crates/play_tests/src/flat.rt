@@ -131,8 +131,8 @@ fn flat_code_is_listed(rt: HostRuntime) {
     is_listed(&rt, alloc, NUMBERS, NUMBERS_LISTED);
 }
 
-/// The loops take six turns, and end at `print`. With one turn less the last round of the outer one has none. A number is read where there is no
-/// block, since nothing has done the allocation.
+/// The loops take six turns, and end at `print`. With one turn less the last round of the outer one has none. From the inner one on, where all
+/// is 0, it takes three turns, and the outer one none. A number is read where there is no block, since nothing has done the allocation.
 #[test]
 fn flat_code_runs(rt: HostRuntime) {
     let alloc = rt.alloc();
@@ -145,7 +145,7 @@ fn flat_code_runs(rt: HostRuntime) {
         (9, 0, End::Faults(FaultKind::Turns)),
         &[1, 3],
     );
-    stops_at(&rt, alloc, LOOPS, (4, 2), (9, 0, End::Leaves), &[0, 2]);
+    stops_at(&rt, alloc, LOOPS, (4, 3), (10, 0, End::Leaves), &[0, 3]);
     stops_at(
         &rt,
         alloc,
