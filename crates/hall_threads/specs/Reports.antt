@@ -44,7 +44,7 @@ abbrev pub ComesTo : Setting → Terms → Ran → Type 0
 ComesTo c terms (ran.Finished report) = SomeRun c terms finished (λ run last. IsReportOf c run last report)
 ComesTo c terms (ran.Stopped stop) = IsStoppedBy c terms stop
 
--- The run stopped for lack of memory, or it has finished and lacked memory for its report.
+-- The run stopped for lack of memory. Of a run that has finished nothing is asked: its report may lack memory.
 abbrev pub LacksMemory : RunEnd → Type 0
 LacksMemory (ends.Finished finish) = Unit {0}
 LacksMemory (ends.Stopped stop) = stop ≡ OutOfMemory

@@ -125,7 +125,8 @@ pub(crate) fn try_next<C: Choices>(
     }
     match make_try(hall, code, seat, choices) {
         Answer::Did(_) | Answer::Found(_) => Tried::Did,
-        Answer::Refused(_) => Tried::Waits,
+        Answer::Refused(_) if seat.owns().is_some() => Tried::Waits,
+        Answer::Refused(_) => Tried::Idles,
         Answer::Over(end) => Tried::Ended(end),
     }
 }

@@ -1,5 +1,5 @@
 -- How seats come and go.
-use Rattle.std.proofs.Common.{◌≡◌, ◌≢◌, ℕ, zero, suc, ◌<◌, ◌≤◌, true, false, true≢false, inl, inr, ⊎_elim, Option, Some, None, List, [], ◌∷◌, ◌++◌, map, length, set, replicate, slice_index, refl, sym, ap, ◌∙◌, subst, arith}
+use Rattle.std.proofs.Common.{◌≡◌, ◌≢◌, ℕ, zero, suc, ◌+◌, ◌<◌, ◌≤◌, true, false, true≢false, inl, inr, ⊎_elim, Option, Some, None, List, [], ◌∷◌, ◌++◌, map, length, set, replicate, slice_index, refl, sym, ap, ◌∙◌, subst, arith}
 use mathlib.Core.Option.{some, none, some-injective, some-ne-none}
 use mathlib.Core.Option as maybe
 use mathlib.Core.List.{map-append}
@@ -13,7 +13,7 @@ use Rattle.turn_table.specs.declared.place.Place.{Place}
 use Rattle.turn_table.specs.declared.opening.Opening.{Opening}
 use Rattle.turn_table.specs.Hands.{times, turn, Shows, fresh, spent, noted}
 use Rattle.turn_table.specs.Law.{Fits, SplitKeeps, JoinKeeps}
-use Rattle.turn_table.specs.Rows.{Row, Rule, unopened, hands_of}
+use Rattle.turn_table.specs.Rows.{turn_word, Row, Rule, unopened, hands_of}
 use Rattle.turn_table.specs.Steps.{with, placed}
 use Rattle.turn_table.proofs.Hands.{turn_set, turn_append}
 use Rattle.turn_table.proofs.Steps.{set_read}
@@ -49,7 +49,7 @@ module _ {K V N : Type 0} (fact : K → List V → ℕ → List (Hand V N) → T
 
   -- the seats change, and no slot comes or goes
   reseated : (s : St) (r : Row fact blank about s) (views : List (Place K V N)) (hands : List (Hand V N)) → hands_of views ≡ hands → ((i : ℕ) → turn hands i ≡ turn r.hands i)
-      → ((j : ℕ) (p : Place K V N) → get_elem? views j ≡ some p → p.hand.seated ≡ false → p.key ≡ None) → Fits blank (length s.homes) r.shown hands → fact key r.shown (slice_index s.words (length s.homes)) hands
+      → ((j : ℕ) (p : Place K V N) → get_elem? views j ≡ some p → p.hand.seated ≡ false → p.key ≡ None) → Fits blank (length s.homes) r.shown hands → fact key r.shown (slice_index s.words (turn_word (length s.homes))) hands
       → Rule fact blank about record { words = s.words; homes = s.homes; views = views }
   reseated s r views hands same turns opened fits kept = inr record {
     shown = r.shown;
@@ -81,7 +81,7 @@ module _ {K V N : Type 0} (fact : K → List V → ℕ → List (Hand V N) → T
       (λ j q e z. ⊎_elim (λ (t : get_elem? (set s.views id (with p g)) j ≡ some q). opened_set s.views id (with p g) (λ f. absurd (true≢false (sym seated ∙ f))) r.opened j q t z)
       (λ (t : with p (fresh right) ≡ q). absurd (true≢false (ap (λ (x : Place K V N). x.hand.seated) t ∙ z))) (at_snoc (set s.views id (with p g)) (with p (fresh right)) q j e))
       (fits_more blank (length s.homes) r.shown hands right one)
-      (law r.shown (slice_index s.words (length s.homes)) r.hands (stands fact blank about table s r id p (r.sized ∙ size) at))
+      (law r.shown (slice_index s.words (turn_word (length s.homes))) r.hands (stands fact blank about table s r id p (r.sized ∙ size) at))
 
   pub joins : (table : TableId) (id : ℕ) (p : Place K V N) (other : ℕ) (q : Place K V N) (note : N) → p.hand.seated ≡ true → q.hand.holds ≡ [] → JoinKeeps fact blank key (placed table id p) (placed table other q) note
       → length about.values.value.items ≡ table.slots → Joins (Rule fact blank about) id p other q (with p (noted p.hand note)) record { key = None; hand = spent blank }
@@ -96,7 +96,7 @@ module _ {K V N : Type 0} (fact : K → List V → ℕ → List (Hand V N) → T
       (λ i. let t = turn_set hands other q.hand (spent blank) i theirs' in let u = turn_set r.hands id p.hand g i mine' in let e : times i q.hand.holds ≡ 0 = ap (times i) empty in omega arith)
       (opened_set views other gone (λ _. refl) (opened_set s.views id w (λ f. absurd (true≢false (sym seated ∙ f))) r.opened))
       (fits_same blank n r.shown hands other q.hand (spent blank) one theirs' (sym empty) (λ _. refl))
-      (law r.shown (slice_index s.words n) r.hands (stands fact blank about table s r id p (r.sized ∙ size) at) (stands fact blank about table s r other q (r.sized ∙ size) was) two)
+      (law r.shown (slice_index s.words (turn_word n)) r.hands (stands fact blank about table s r id p (r.sized ∙ size) at) (stands fact blank about table s r other q (r.sized ∙ size) was) two)
 
   -- the first seat gets its note
   pub opens : (values : List V) (note : N) (slots id : ℕ) (me : Me (Option V) (Place K V N)) → fact key values 0 (fresh note ∷ []) → about.values.value.items ≡ map Some values → id ≡ 0 → me ≡ (unopened key blank, [])
@@ -105,14 +105,14 @@ module _ {K V N : Type 0} (fact : K → List V → ℕ → List (Hand V N) → T
       let w : Place K V N = with me.0 (fresh note) in let hands : List (Hand V N) = fresh note ∷ [] in let n : ℕ = length s.homes in
       let homes : s.homes ≡ map some (map Some values) = u.homes ∙ ap (map some) are in
       let long : n ≡ length values = ap length homes ∙ length-map (map Some values) some ∙ length-map values Some in
-      let zero' : (i : ℕ) → i ≤ n → slice_index s.words i ≡ 0 = λ i near. ap (λ (ws : List ℕ). slice_index ws i) u.words ∙ zeros (suc n) i (omega arith) in
+      let zero' : (i : ℕ) → i ≤ n → slice_index s.words (turn_word i) ≡ 0 = λ i near. ap (λ (ws : List ℕ). slice_index ws (turn_word i)) u.words ∙ zeros (turn_word n + 8) (turn_word i) (omega arith) in
       let views : set s.views id w ≡ w ∷ [] = ap (λ (vs : List (Place K V N)). set vs id w) u.views ∙ ap (λ (j : ℕ). set (unopened key blank ∷ []) j w) first in
       let row : Row fact blank about record { words = s.words; homes = s.homes; views = w ∷ [] } = record {
         shown = values;
         hands = hands;
         same = refl;
         sized = ap length u.homes ∙ length-map about.values.value.items some;
-        wide = ap length u.words ∙ length-replicate (suc n) 0;
+        wide = ap length u.words ∙ length-replicate (turn_word n + 8) 0;
         turns = λ i near. zero' i (omega arith);
         home = λ i v _ e. ap (λ (hs : List (maybe.Option (Option V))). get_elem? hs i) homes ∙ at_map some (map Some values) i (Some v) (at_map Some values i v e);
         out = λ i near pos. absurd (omega arith);

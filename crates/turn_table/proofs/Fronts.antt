@@ -12,7 +12,7 @@ use Rattle.turn_table.specs.declared.place.Place.{Place}
 use Rattle.turn_table.specs.declared.opening.Opening.{Opening}
 use Rattle.turn_table.specs.Hands.{Has, times, without_slot}
 use Rattle.turn_table.specs.Seats.{vacant}
-use Rattle.turn_table.specs.Rows.{Rule}
+use Rattle.turn_table.specs.Rows.{turn_word, Rule}
 use Rattle.turn_table.specs.Steps.{Fronted}
 use Rattle.turn_table.proofs.Hands.{at_within, times_here, times_else, times_has, without_here, without_else, vacant_without, turn_at, shows_within}
 use Rattle.turn_table.proofs.Rows.{mine, opened}
@@ -80,7 +80,7 @@ module _ (V : Type 0) where
 
 module _ {K V N : Type 0} (fact : K → List V → ℕ → List (Hand V N) → Type 0) (blank : N) (about : Opening K V) where
   pub fronts : (slots i id : ℕ) (me : Me (Option V) (Place K V N)) → me.0.hand.seated ≡ true → me.1 ≡ vacant me.0.hand.holds → Has i me.0.hand.holds
-      → Allows (Rule fact blank about) slots id me i (λ n. n) (λ _ m. Fronted i me m)
+      → Allows (Rule fact blank about) slots id me (turn_word i) (λ n. n) (λ _ m. Fronted i me m)
   fronts slots i id me seated is has s law wide at small =
       let r = opened fact blank about s id me.0 law at seated in let h = me.0.hand in let mine' = mine fact blank about s r id me.0 at in
       let b = brings V i h.holds s.homes has (λ k. let t = turn_at r.hands id h k mine' in let o = r.fits.once k in omega arith)
@@ -90,6 +90,6 @@ module _ {K V N : Type 0} (fact : K → List V → ℕ → List (Hand V N) → T
         me.0,
         bring V i h.holds,
         b'.2,
-        subst (Rule fact blank about) (λ k. record { words = sym (set_read s.words i) k; homes = sym b'.1 k; views = sym (set_again s.views id me.0 at) k }) law,
+        subst (Rule fact blank about) (λ k. record { words = sym (set_read s.words (turn_word i)) k; homes = sym b'.1 k; views = sym (set_again s.views id me.0 at) k }) law,
         (λ k. (me.0, b'.0 k)),
       )

@@ -5,6 +5,7 @@ mod Fronts
 mod PutBacks
 mod Comings
 mod Sits
+mod Words
 mod Wraps
 mod Closing
 pub mod NoteLaws

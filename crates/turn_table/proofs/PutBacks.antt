@@ -13,7 +13,7 @@ use Rattle.turn_table.specs.declared.place.Place.{Place}
 use Rattle.turn_table.specs.declared.opening.Opening.{Opening}
 use Rattle.turn_table.specs.Hands.{Has, times, turn, without_slot, renewed, Shows, showing, gave}
 use Rattle.turn_table.specs.Law.{PutKeeps}
-use Rattle.turn_table.specs.Rows.{Row, Rule}
+use Rattle.turn_table.specs.Rows.{turn_word, Row, Rule}
 use Rattle.turn_table.specs.Steps.{with, placed, Gave}
 use Rattle.turn_table.proofs.Hands.{times_here, times_else, times_has, times_renewed, times_without, times_without_else, shows_within, shows_same, length-showing, showing_else, showing_shows, turn_set, turn_at, turn_two}
 use Rattle.turn_table.proofs.Rows.{fits_set, in_seat, mine, stands, rewritten, meets, opened}
@@ -65,7 +65,7 @@ module _ {K V N : Type 0} (fact : K → List V → ℕ → List (Hand V N) → T
   key = about.key.value
 
   pub gives_back : (table : TableId) (i id : ℕ) (me : Me (Option V) (Place K V N)) (value : V) (others : List (ℕ × Option V)) (note : Hand V N → N) (f : ℕ → V → V) → me.0.hand.seated ≡ true → me.1 ≡ (i, Some value) ∷ others → Has i me.0.hand.holds
-      → PutKeeps fact blank key (placed table id me.0) i value note f → Allows (Rule fact blank about) table.slots id me i (λ _. 0) (λ _ m. Gave fact blank key table id i note f me m)
+      → PutKeeps fact blank key (placed table id me.0) i value note f → Allows (Rule fact blank about) table.slots id me (turn_word i) (λ _. 0) (λ _ m. Gave fact blank key table id i note f me m)
   gives_back table i id me value others note f seated is has law s rule wide at small =
       let r = opened fact blank about s id me.0 rule at seated in let h = me.0.hand in let hands : List (Hand V N) = r.hands in let mine' = mine fact blank about s r id me.0 at in
       let g : Hand V N = gave note f h i in let shown : List V = r.shown in let once = r.fits.once in let shows = r.fits.shows in
@@ -79,12 +79,12 @@ module _ {K V N : Type 0} (fact : K → List V → ℕ → List (Hand V N) → T
       let wide' = r.wide in
       let fits = fits_set blank (length s.homes) shown later' hands id h g r.fits mine' (length-showing shown ((i, value) ∷ ks) ∙ r.fits.long) (in_seat blank g seated)
       (put_once hands shown id i h g value f mine' once has refl shows) all.1 (others_show hands shown id i h g value f mine' once has refl shows) in
-      let kept = law shown (slice_index s.words (length s.homes)) hands (stands fact blank about table s r id me.0 wide at) in
-      let kept' : fact key later' (slice_index (set s.words i 0) (length s.homes)) (set hands id g) = subst (λ (n : ℕ). fact key later' n (set hands id g)) (sym (get_or-set_other s.words i (length s.homes) 0 0 (λ e. omega arith))) kept in
+      let kept = law shown (slice_index s.words (turn_word (length s.homes))) hands (stands fact blank about table s r id me.0 wide at) in
+      let kept' : fact key later' (slice_index (set s.words (turn_word i) 0) (turn_word (length s.homes))) (set hands id g) = subst (λ (n : ℕ). fact key later' n (set hands id g)) (sym (get_or-set_other s.words (turn_word i) (turn_word (length s.homes)) 0 0 (λ e. omega arith))) kept in
       let homes : List (maybe.Option (Option V)) = set s.homes i (some (Some value)) in
-      let row = rewritten fact blank about s r id me.0 g (set s.words i 0) homes later' seated (length-set s.words i 0) (length-set s.homes i (some (Some value)))
-      (λ j n. dite (ℕ_discrete j i) (λ e. subst (λ (k : ℕ). slice_index (set s.words i 0) k ≡ turn (set hands id g) k) (sym e) (get_or-set_same s.words i 0 0 (omega arith) ∙ sym here))
-      (λ d. get_or-set_other s.words i j 0 0 d ∙ r.turns j n ∙ sym (else j d)))
+      let row = rewritten fact blank about s r id me.0 g (set s.words (turn_word i) 0) homes later' seated (length-set s.words (turn_word i) 0) (length-set s.homes i (some (Some value)))
+      (λ j n. dite (ℕ_discrete j i) (λ e. subst (λ (k : ℕ). slice_index (set s.words (turn_word i) 0) (turn_word k) ≡ turn (set hands id g) k) (sym e) (get_or-set_same s.words (turn_word i) 0 0 (omega arith) ∙ sym here))
+      (λ d. get_or-set_other s.words (turn_word i) (turn_word j) 0 0 (λ e. d (omega arith)) ∙ r.turns j n ∙ sym (else j d)))
       (λ j u z e. dite (ℕ_discrete j i)
       (λ d. let v : value ≡ u = some-injective value u (sym all.0 ∙ ap (λ (k : ℕ). get_elem? later' k) (sym d) ∙ e) in
       subst (λ (k : ℕ). get_elem? homes k ≡ some (some (Some u))) (sym d) (set_here s.homes i (some (Some value)) near ∙ ap (λ (x : V). some (some (Some x))) v))
@@ -96,6 +96,6 @@ module _ {K V N : Type 0} (fact : K → List V → ℕ → List (Hand V N) → T
         with me.0 g,
         gives,
         tt,
-        inr (subst (λ (hs : List (maybe.Option (Option V))). Row fact blank about record { words = set s.words i 0; homes = hs; views = set s.views id (with me.0 g) }) (ap (put_back s.homes) (sym is)) row),
-        (refl, (later', slice_index s.words (length s.homes), set hands id g, meets fact blank about table s r id me.0 g later' (slice_index s.words (length s.homes)) wide at fits kept)),
+        inr (subst (λ (hs : List (maybe.Option (Option V))). Row fact blank about record { words = set s.words (turn_word i) 0; homes = hs; views = set s.views id (with me.0 g) }) (ap (put_back s.homes) (sym is)) row),
+        (refl, (later', slice_index s.words (turn_word (length s.homes)), set hands id g, meets fact blank about table s r id me.0 g later' (slice_index s.words (turn_word (length s.homes))) wide at fits kept)),
       )

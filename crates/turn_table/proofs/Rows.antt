@@ -1,5 +1,5 @@
 -- The rule of the table below: what a seat knows of a state, and what a later state owes.
-use Rattle.std.proofs.Common.{◌≡◌, ◌≢◌, ℕ, zero, suc, ◌<◌, ◌≤◌, true, false, true≢false, inl, inr, ⊎_elim, Option, Some, List, [], ◌∷◌, length, set, slice_index, sym, ap, ◌∙◌, subst, arith}
+use Rattle.std.proofs.Common.{◌≡◌, ◌≢◌, ℕ, zero, suc, ◌+◌, ◌<◌, ◌≤◌, true, false, true≢false, inl, inr, ⊎_elim, Option, Some, List, [], ◌∷◌, length, set, slice_index, sym, ap, ◌∙◌, subst, arith}
 use mathlib.Core.Option.{some, none, some-injective, some-ne-none}
 use mathlib.Core.Option as maybe
 use lib.ListN.{get_elem?}
@@ -12,7 +12,7 @@ use Rattle.turn_table.specs.declared.place.Place.{Place}
 use Rattle.turn_table.specs.declared.opening.Opening.{Opening}
 use Rattle.turn_table.specs.Hands.{turn, Shows, spent}
 use Rattle.turn_table.specs.Law.{Fits, Stands}
-use Rattle.turn_table.specs.Rows.{Row, Rule, unopened, hands_of}
+use Rattle.turn_table.specs.Rows.{turn_word, Row, Rule, unopened, hands_of}
 use Rattle.turn_table.specs.Steps.{with, placed}
 use Rattle.turn_table.proofs.Hands.{at_within}
 
@@ -46,7 +46,7 @@ module _ {K V N : Type 0} (fact : K → List V → ℕ → List (Hand V N) → T
   mine s r id p at = subst (λ (hs : List (Hand V N)). get_elem? hs id ≡ some p.hand) r.same (at_map (λ (q : Place K V N). q.hand) s.views id p at)
 
   pub stands : (table : TableId) (s : St) (r : Row fact blank about s) (id : ℕ) (p : Place K V N) → length s.homes ≡ table.slots → get_elem? s.views id ≡ some p
-      → Stands fact blank key (placed table id p) r.shown (slice_index s.words (length s.homes)) r.hands
+      → Stands fact blank key (placed table id p) r.shown (slice_index s.words (turn_word (length s.homes))) r.hands
   stands table s r id p wide at = record { fits = subst (λ (n : ℕ). Fits blank n r.shown r.hands) wide r.fits; kept = r.kept; mine = mine s r id p at }
 
   pub same_set : (s : St) (r : Row fact blank about s) (id : ℕ) (w : Place K V N) → hands_of (set s.views id w) ≡ set r.hands id w.hand
@@ -54,24 +54,24 @@ module _ {K V N : Type 0} (fact : K → List V → ℕ → List (Hand V N) → T
 
   -- one seat's hand changes, and with it words, homes and what is shown
   pub rewritten : (s : St) (r : Row fact blank about s) (id : ℕ) (p : Place K V N) (g : Hand V N) (words : List ℕ) (homes : List (maybe.Option (Option V))) (later : List V) → g.seated ≡ true → length words ≡ length s.words → length homes ≡ length s.homes
-      → ((i : ℕ) → i < length s.homes → slice_index words i ≡ turn (set r.hands id g) i)
+      → ((i : ℕ) → i < length s.homes → slice_index words (turn_word i) ≡ turn (set r.hands id g) i)
       → ((i : ℕ) (v : V) → turn (set r.hands id g) i ≡ 0 → get_elem? later i ≡ some v → get_elem? homes i ≡ some (some (Some v)))
       → ((i : ℕ) → i < length s.homes → 0 < turn (set r.hands id g) i → get_elem? homes i ≡ some none)
-      → Fits blank (length s.homes) later (set r.hands id g) → fact key later (slice_index words (length s.homes)) (set r.hands id g)
+      → Fits blank (length s.homes) later (set r.hands id g) → fact key later (slice_index words (turn_word (length s.homes))) (set r.hands id g)
       → Row fact blank about record { words = words; homes = homes; views = set s.views id (with p g) }
   rewritten s r id p g words homes later seated wide long turns home out fits kept = record {
     shown = later;
     hands = set r.hands id g;
     same = same_set s r id (with p g);
     sized = long ∙ r.sized;
-    wide = wide ∙ r.wide ∙ ap suc (sym long);
+    wide = wide ∙ r.wide ∙ ap (λ n. turn_word n + 8) (sym long);
     turns = λ i near. turns i (omega arith);
     home = home;
     out = λ i near. out i (omega arith);
     opened = λ j q e z. ⊎_elim (λ (t : (j ≡ id) × (with p g ≡ q)). absurd (true≢false (sym seated ∙ ap (λ (x : Place K V N). x.hand.seated) t.1 ∙ z)))
         (λ (t : (j ≢ id) × (get_elem? s.views j ≡ some q)). r.opened j q t.1 z) (at_set s.views id j (with p g) q e);
     fits = subst (λ (n : ℕ). Fits blank n later (set r.hands id g)) (sym long) fits;
-    kept = subst (λ (n : ℕ). fact key later (slice_index words n) (set r.hands id g)) (sym long) kept;
+    kept = subst (λ (n : ℕ). fact key later (slice_index words (turn_word n)) (set r.hands id g)) (sym long) kept;
   }
 
   -- the state after, as the seat knows it

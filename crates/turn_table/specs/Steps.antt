@@ -8,6 +8,11 @@ use Rattle.turn_table.specs.declared.place.Place.{Place}
 use Rattle.turn_table.specs.Hands.{without_slot, took, refused, counted, gave}
 use Rattle.turn_table.specs.Seats.{SeatView}
 use Rattle.turn_table.specs.Law.{Meets, MeetsHeld}
+use Rattle.turn_table.specs.Rows.{turn_word}
+
+-- what a step on this word tells of the slot whose turn word it is
+abbrev pub OfWord : ℕ → (ℕ → Type 0) → Type 0
+OfWord word Told = (slot : ℕ) → turn_word slot ≡ word → Told slot
 
 module _ {K V N : Type 0} where
   -- the same seat with another hand

@@ -35,6 +35,8 @@
 //!   no note yet: `new` gives it by one load, before anyone else can have the row.
 //! - **Only the proof knows which held slot is put back.** A seat carries its slots in order, and only the first of them can be written. So
 //!   `put_back` loads the turn word once, and at that step the proof brings the slot to the front.
+//! - **Turn words are eight words apart**, each in a line of the processor's cache of its own. Side by side, a seat that takes its own slot
+//!   would take the line from the holder of another one, and slots with small numbers are taken by everybody.
 //! - **`close` takes no memory**, since the row keeps the list in which its values came, empty and with its room. So a row can be shared by
 //!   threads if its values are `Send` and `Sync`.
 //! - **For a row of more than 4,294,967,295 slots there is not enough memory**, so that each slot has a number of 32 bits.

@@ -26,7 +26,8 @@ pub fn work<R: Wait + Clock, T, K, E, W: Works<T, K, E>, G: Gate>(
         match worker.try_once(table, code) {
             Tried::Did => pause.end(),
             Tried::Runs => pause.let_others_in(),
-            Tried::Waits => pause.wait(rt),
+            Tried::Waits => pause.wait_for_part(),
+            Tried::Idles => pause.wait_for_work(rt),
             Tried::Ended(end) => return end,
         }
     }

@@ -8,8 +8,10 @@ pub enum Tried<E> {
     Did,
     /// It went on and has not come to its end, and what it held is free for others now.
     Runs,
-    /// It did nothing: a part was held by another worker, or there was nothing to do.
+    /// It has work, and did nothing: another worker held a part that it needs.
     Waits,
+    /// It has no work, and found none.
+    Idles,
     /// The work has ended so.
     Ended(E),
 }

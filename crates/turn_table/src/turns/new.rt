@@ -3,8 +3,8 @@ ghost use Rattle.std.specs.Prelude.{◌≡◌, ◌<◌, [], ◌∷◌, vec_len, 
 ghost use Rattle.turn_table.specs.Hands.{fresh};
 ghost use Rattle.turn_table.specs.Tables.{key_of, slot_count, IsSeatOf};
 
-use super::Turns;
 use super::values::{unwrap, wrap};
+use super::{Turns, WORDS_APART};
 use crate::law::TurnLaw;
 use crate::opening::Opening;
 use crate::picks::Opens;
@@ -37,7 +37,7 @@ impl<V, L: TurnLaw<V>> Turns<V, L> {
         if values.len() > GREATEST_COUNT as usize {
             return Err((values, AllocError));
         }
-        let Ok(words) = Vec::from_elem(alloc, 0u64, values.len() + 1) else {
+        let Ok(words) = Vec::from_elem(alloc, 0u64, values.len() * WORDS_APART + WORDS_APART) else {
             return Err((values, AllocError));
         };
         let Ok(slots) = wrap(alloc, &mut values) else {

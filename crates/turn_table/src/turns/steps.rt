@@ -5,7 +5,7 @@ ghost use Rattle.turn_table.specs.Seats.{with_hand};
 ghost use Rattle.turn_table.specs.Law.{Meets, MeetsHeld, TakeKeeps, HeldKeeps, CountKeeps, PutKeeps, SplitKeeps, JoinKeeps};
 ghost use Rattle.turn_table.specs.Tables.{key_of, slot_count, IsSeatOf};
 
-use super::Turns;
+use super::{Turns, WORDS_APART};
 use crate::held::Held;
 use crate::law::TurnLaw;
 use crate::picks::{Joins, Notes, Puts, Splits};
@@ -31,7 +31,12 @@ impl<V, L: TurnLaw<V>> Turns<V, L> {
             (λ e. MeetsHeld L.fact L.blank (key_of self.now) seat.new i e.seen) }
     {
         let shared = &self.table.shared;
-        let found = shared.compare_exchange::<Brand>(&mut seat.seat, i as usize, 0, 1);
+        let found = shared.compare_exchange::<Brand>(
+            &mut seat.seat,
+            i as usize * WORDS_APART,
+            0,
+            1,
+        );
         if found != 0 {
             return Err(Held {
                 slot: i,
@@ -90,12 +95,12 @@ impl<V, L: TurnLaw<V>> Turns<V, L> {
         ensures meets { Meets L.fact L.blank (key_of self.now) seat.new }
     {
         let shared = &self.table.shared;
-        shared.load::<Brand>(&mut seat.seat, i as usize);
+        shared.load::<Brand>(&mut seat.seat, i as usize * WORDS_APART);
         match shared.exchange(&mut seat.seat, i as usize, Some(value)) {
             None => {}
             Some(_) => unreachable!(),
         }
-        shared.store::<Brand>(&mut seat.seat, i as usize, 0);
+        shared.store::<Brand>(&mut seat.seat, i as usize * WORDS_APART, 0);
     }
 
     /// Counts one further, by one fetch and add, and answers the word found. After 18,446,744,073,709,551,615 comes 0.
@@ -105,7 +110,7 @@ impl<V, L: TurnLaw<V>> Turns<V, L> {
         ensures seat { seat.new ≡ with_hand seat.old (counted M.note seat.old.hand result) }
         ensures meets { Meets L.fact L.blank (key_of self.now) seat.new }
     {
-        let last = self.table.slot_count();
+        let last = self.table.slot_count() * WORDS_APART;
         self.table
             .shared
             .fetch_add::<Brand>(&mut seat.seat, last, 1)

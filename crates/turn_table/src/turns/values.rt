@@ -1,8 +1,9 @@
 //! The values of a row, on their way into the slots and out of them.
-ghost use Rattle.std.specs.Prelude.{◌≡◌, ℕ, ◌+◌, ◌<◌, ◌≤◌, ◌^◌, ◌++◌, map, vec_len, vec_capacity, option_to_list, IfOk, OnErr, Some};
+ghost use Rattle.std.specs.Prelude.{◌≡◌, ℕ, ◌+◌, ◌*◌, ◌<◌, ◌≤◌, ◌^◌, ◌++◌, map, vec_len, vec_capacity, option_to_list, IfOk, OnErr, Some};
 ghost use Rattle.core.specs.Mem.Slots.{slots_items, slots_len, IsFull};
 ghost use Rattle.turn_table.specs.Values.{present, IsFirstTaken, IsEmpty};
 
+use super::WORDS_APART;
 use atomic_table::Closed;
 use std::alloc::{AllocError, Allocator, Global};
 
@@ -48,12 +49,12 @@ pub(super) fn unwrap<V>(mut slots: Vec<Option<V>>, values: &mut Vec<V>)
 
 // The first slot whose turn word is not 0.
 pub(super) fn first_taken<S, A: Allocator>(closed: &Closed<S, A>) -> Option<u32>
-    requires { IsFull closed.now.words × (slots_len closed.now.words ≡ slots_len closed.now.slots + 1)
+    requires { IsFull closed.now.words × (slots_len closed.now.words ≡ slots_len closed.now.slots * 8 + 8)
         × (slots_len closed.now.slots < 2 ^ 32) }
     ensures { IsFirstTaken (slots_items closed.now.words) (slots_len closed.now.slots) result }
 {
     for i in 0..closed.slot_count() {
-        if closed.word(i) != 0 {
+        if closed.word(i * WORDS_APART) != 0 {
             return Some(i as u32);
         }
     }
