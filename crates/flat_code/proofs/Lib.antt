@@ -5,4 +5,5 @@ pub mod Acting
 pub mod OneNode
 pub mod MadeCode
 pub mod Forwards
+pub mod Starting
 pub mod OfPrograms

@@ -73,7 +73,7 @@ first_acts : (f : FlatCode) (here : List Frame) (place : ℕ) (acts : List Act) 
 first_acts f here place [] some h = absurd some
 first_acts f here place (a ∷ acts) some h = h.0.mark
 
-first_tested : (f : FlatCode) (here : List Frame) (place : ℕ) (acts : List Act) (test : Flat)
+pub first_tested : (f : FlatCode) (here : List Frame) (place : ℕ) (acts : List Act) (test : Flat)
     → Holds f place (acts_placed here acts ++ placed test here ∷ []) → frames_at f place ≡ here
 first_tested f here place [] test h = h.0.mark
 first_tested f here place (a ∷ acts) test h = h.0.mark
@@ -127,7 +127,7 @@ module _ (f : FlatCode) (k size : ℕ) (fits_in : k ≤ size) where
         subst (λ n. Has f n test here) same (holds_rest f place acts (placed test here ∷ []) h).0,
       )
 
-  round_is_code : (e : Expr) (here : List Frame) (body behind place : ℕ) → FitsTest k size e
+  pub round_is_code : (e : Expr) (here : List Frame) (body behind place : ℕ) → FitsTest k size e
       → Holds f place (tested e k here (rounds (test_of e k) body behind)) → IsRoundCode f k size e here place body behind
   round_is_code e here body behind place fits h =
       let parts = test_is_code e here (rounds (test_of e k) body behind) place fits h in
@@ -138,7 +138,7 @@ module _ (f : FlatCode) (k size : ℕ) (fits_in : k ≤ size) where
   module _ (M : Making) (P : StatementCode) (F : ℕ → Type 0)
       (made : (place n : ℕ) (here xs : List Frame) → F n → Holds f place (M place n here xs)
       → P place n here xs (place + length (M place n here xs)) × (frames_at f place ≡ here)) where
-    list_is_code : (ns : List ℕ) (list : ListOf) (next : ℕ) (xs : List Frame) (place : ℕ) → AllFit F ns → Holds f place (list_made M ns list next xs place)
+    pub list_is_code : (ns : List ℕ) (list : ListOf) (next : ℕ) (xs : List Frame) (place : ℕ) → AllFit F ns → Holds f place (list_made M ns list next xs place)
         → IsListCode f P ns list next xs place (place + length (list_made M ns list next xs place))
     list_is_code [] list next xs place fits h = let e : place ≡ place + 0 = omega arith in e
     list_is_code (n ∷ ns) list next xs place fits h =
@@ -150,13 +150,13 @@ module _ (f : FlatCode) (k size : ℕ) (fits_in : k ≤ size) where
         let end : place + length one + length others ≡ place + length (one ++ others) = omega (arith, both) in
         (first.1, (place + length one, first.0, subst (λ m. IsListCode f P ns list (next + 1) xs (place + length one) m) end later))
 
-    over_is : (n : ℕ) (xs : List Frame) (b : List ℕ) (x : ℕ)
+    pub over_is : (n : ℕ) (xs : List Frame) (b : List ℕ) (x : ℕ)
         → Holds f x (arm_end b xs (x + arm_end_length b + length (list_made M b (Other n) 0 xs (x + arm_end_length b))))
         → IsArmEnd f xs b x (x + arm_end_length b + length (list_made M b (Other n) 0 xs (x + arm_end_length b)))
     over_is n xs [] x h = let e : x ≡ x + 0 + 0 = omega arith in e
     over_is n xs (m ∷ ms) x h = h.0
 
-    arm_end_long : (b : List ℕ) (xs : List Frame) (behind : ℕ) → length (arm_end b xs behind) ≡ arm_end_length b
+    pub arm_end_long : (b : List ℕ) (xs : List Frame) (behind : ℕ) → length (arm_end b xs behind) ≡ arm_end_length b
     arm_end_long [] xs behind = refl
     arm_end_long (n ∷ ns) xs behind = refl
 
@@ -261,7 +261,7 @@ module _ (f : FlatCode) (k size : ℕ) (fits_in : k ≤ size) where
   -- ---- nodes, and whole lists
 
   module _ (t : Table) where
-    node_is_code : (depth place n : ℕ) (here xs : List Frame) → FitsNode t k size depth n → Holds f place (node_made t k depth place n here xs)
+    pub node_is_code : (depth place n : ℕ) (here xs : List Frame) → FitsNode t k size depth n → Holds f place (node_made t k depth place n here xs)
         → IsNodeCode t f k size depth place n here xs (place + length (node_made t k depth place n here xs)) × (frames_at f place ≡ here)
     node_is_code zero place n here xs fits h = absurd fits
     node_is_code (suc depth) place n here xs fits h =

@@ -1,4 +1,5 @@
 pub mod Made
+pub mod Starts
 pub mod Fits
 pub mod Shown
 pub mod Room

@@ -6,6 +6,7 @@ ghost use Rattle.flat_statements.specs.Codes.{IsWholeCode};
 ghost use Rattle.flat_statements.specs.Forward.{IsForward};
 ghost use Rattle.flat_code.specs.Fits.{CanBeFlat};
 ghost use Rattle.flat_code.specs.Shown.{flat_shown};
+ghost use Rattle.flat_code.specs.Starts.{OthersBegin};
 
 use crate::fitting::fits_list;
 use crate::instruction::Instruction;
@@ -42,6 +43,7 @@ pub fn lower_whole(
     requires { CanBeFlat (code_shown code.now) slots size list }
     ensures code { IfOk result (λ v. IsWholeCode (code_shown code.now) (flat_shown v.items) slots size list 0) }
     ensures forward { IfOk result (λ v. IsForward (flat_shown v.items)) }
+    ensures begins { IfOk result (λ v. OthersBegin (code_shown code.now) (flat_shown v.items) slots size) }
 {
     let scope = Scope { code, slots, size };
     let none: &[Frame] = &[];

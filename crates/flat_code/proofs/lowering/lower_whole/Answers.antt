@@ -8,6 +8,7 @@ use Rattle.flat_code.specs.Made.{placed, list_made, node_made}
 use Rattle.flat_code.specs.Shown.{places_shown}
 use Rattle.flat_code.proofs.Forwards.{made_forward}
 use Rattle.flat_code.proofs.MadeCode.{made_is_code}
+use Rattle.flat_code.proofs.Starting.{made_begins}
 use Rattle.flat_code.proofs.lowering.lower_whole.Goals as goal
 
 pub returns-clause-code : goal.returns-clause-code
@@ -28,4 +29,16 @@ returns-clause-forward c =
     let k = c.args.slots in
     let inside = c.in_ok-places.ensures ∙ ap (λ ns. list_made (node_made t k c.len.result) ns c.args.list 0 [] 0) c.numbers-inside.ensures in
     made_forward t k c.len.result c.args.list (places_shown c.add_place.new.places.items)
+    (c.in_ok-add_place.ensures ∙ ap (λ ps. ps ++ placed leaves [] ∷ []) inside)
+
+pub returns-clause-begins : goal.returns-clause-begins
+returns-clause-begins c =
+    let t = code_shown c.args.code.now in
+    let k = c.args.slots in
+    let deep : c.len.result ≡ length t.nodes = c.len.ensures ∙ sym (length-map (nodes_of c.args.code.now) node_shown) in
+    let inside =
+    c.in_ok-places.ensures
+    ∙ ap (λ ns. list_made (node_made t k c.len.result) ns c.args.list 0 [] 0) c.numbers-inside.ensures
+    ∙ ap (λ d. list_made (node_made t k d) (numbers_of t c.args.list) c.args.list 0 [] 0) deep in
+    made_begins t k c.args.size c.args.list (places_shown c.add_place.new.places.items) c.requires
     (c.in_ok-add_place.ensures ∙ ap (λ ps. ps ++ placed leaves [] ∷ []) inside)
