@@ -17,8 +17,8 @@
 //! [`lists_of_programs_can_be_flat`] each list of a program does, if the row has room for the intermediate numbers of its expressions.
 //! Then not enough memory, and too many places, are the only refusals.
 //!
-//! By its second clause the code goes forward, so a run of it ends; `flat_run` has the loop that runs it. Not there yet: the code of a whole
-//! program in one list, with the place at which each of its frames begins.
+//! By its second clause the code goes forward, so a run of it ends (`flat_run` has the loop). By its third clause a place with another mark
+//! than the place before it is one at which a thread may begin; `flat_program` makes a table of them.
 //!
 //! # Why
 //!

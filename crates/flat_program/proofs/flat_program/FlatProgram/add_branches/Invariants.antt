@@ -1,0 +1,6 @@
+use Rattle.node_table.specs.Codes.{code_shown}
+use Rattle.flat_program.specs.Programs.{IsFlatProgram}
+use Rattle.flat_program.proofs.flat_program.FlatProgram.add_branches.Given as goal
+
+abbrev pub invariant-loop-slots : goal.invariant-loop-slots
+invariant-loop-slots l = IsFlatProgram (code_shown l.fn.code) l.self

@@ -1,0 +1,16 @@
+use Rattle.std.proofs.Common.{◌≡◌, ◌-◌, Some, slice_get, refl, sym, ◌∙◌}
+use Rattle.std.proofs.lemmas.Option.{slice_get_read}
+use Rattle.flat_program.proofs.Starts.{same_mark}
+use Rattle.flat_program.proofs.starting.is_first.Goals as goal
+
+pub returns : goal.returns
+returns c other same =
+    let places = c.args.places.now in
+    let at = c.args.at in
+    let before = c.in-Some.before.now in
+    let here = c.in-Some-get.here.now in
+    let one = c.in-Some.ensures.lookup in
+    let two = c.in-Some-get.ensures.lookup in
+    let there : slice_get places (at - 1) ≡ Some before = slice_get_read places _ (at - 1) before refl one.3.0 one.1 in
+    let next : slice_get places at ≡ Some here = slice_get_read places _ at here refl two.3.0 two.1 in
+    c.have_other_tops.ensures other (c.deref.ensures.value ∙ same_mark places at before here there next same ∙ sym c.deref-2.ensures.value)

@@ -1,0 +1,33 @@
+//! The flat code of a whole program, and where each frame of a thread begins in it.
+//!
+//! [`FlatProgram::of`] makes flat code of each list of statements of a node table that a thread does not leave by itself: the bodies of
+//! functions, the branches of each `par` and the body of each `split`. [`FlatProgram::start`] finds the place of a frame by its node.
+//!
+//! It builds on the node table (`node_table`), on frames (`thread_stack`) and on flat code (`flat_code`, `flat_statements`).
+//!
+//! Its theorem: at the place that [`FlatProgram::start`] gives there is the code of all frames of the place's mark (`Begins` of
+//! `flat_code`), and the code goes forward. So a thread whose frames are that mark is represented there by the machine of `flat_statements`,
+//! and `run_flat` of `flat_run` goes its way. Whether its frames are the mark, and its row is as long as [`FlatList`] says, a thread asks
+//! itself. A frame without a start is no fault: its statement is done by the thread.
+//!
+//! Not there yet: the threads that run by it.
+//!
+//! # Why
+//!
+//! - **A start is found by the node.** Each node is a statement of one list, so a table by nodes has two entries for each: where its statement
+//!   begins, and where it comes again if it is a loop.
+//! - **Which frame is at a start is not kept**: a thread compares the whole mark with its stack. So nothing is to be shown of the tables but
+//!   that each entry is the first place of some statement, where the mark is another than before.
+//! - **A row is as long as the list needs.** Its length is found by trying, from the slots of the function on.
+#![tactic(auto)]
+
+mod flat_list;
+mod flat_program;
+mod flat_start;
+mod making;
+mod owners;
+mod starting;
+
+pub use flat_list::FlatList;
+pub use flat_program::FlatProgram;
+pub use flat_start::FlatStart;

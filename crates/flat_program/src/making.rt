@@ -1,0 +1,173 @@
+//! Makes the flat code of a program.
+
+ghost use Rattle.std.specs.Prelude.{IfOk, IfSome};
+ghost use Rattle.node_table.specs.Codes.{code_shown};
+ghost use Rattle.flat_code.specs.Fits.{CanBeFlat};
+ghost use Rattle.flat_program.specs.Programs.{IsFlatList, IsFlatProgram};
+
+use crate::flat_list::FlatList;
+use crate::flat_program::FlatProgram;
+use crate::owners::owners;
+use crate::starting::note_all;
+use flat_code::{LowerFail, can_be_flat, lower_whole};
+use node_table::{Code, NodeKind};
+use std::alloc::{AllocError, Global};
+use thread_stack::ListOf;
+
+/// For how many intermediate numbers a row may have slots.
+const MOST_NUMBERS: u16 = 256;
+
+impl FlatProgram {
+    /// The flat code of all lists of a program that a thread does not leave by itself. A list of too many places has none.
+    ///
+    /// # Errors
+    ///
+    /// There is not enough memory.
+    pub fn of(alloc: Global, code: &Code) -> Result<FlatProgram, AllocError>
+        ensures { IfOk result (IsFlatProgram (code_shown code.now)) }
+    {
+        let mut program = FlatProgram::without_lists(alloc, code)?;
+        program.add_bodies(alloc, code)?;
+        program.add_branches(alloc, code)?;
+        Ok(program)
+    }
+
+    /// No list, and no start of any node.
+    fn without_lists(alloc: Global, code: &Code) -> Result<FlatProgram, AllocError>
+        ensures { IfOk result (IsFlatProgram (code_shown code.now)) }
+    {
+        let mut starts = Vec::new(alloc);
+        for _ in 0..code.len() {
+            starts.push(None)?;
+            starts.push(None)?;
+        }
+        Ok(FlatProgram {
+            lists: Vec::new(alloc),
+            starts,
+        })
+    }
+
+    /// Adds the bodies of functions.
+    fn add_bodies(&mut self, alloc: Global, code: &Code) -> Result<(), AllocError>
+        requires { IsFlatProgram (code_shown code.now) self.old }
+        ensures { IfOk result (λ _. IsFlatProgram (code_shown code.now) self.new) }
+    {
+        for func in 0..u32::MAX {
+            let Some(function) = code.func(func) else {
+                return Ok(());
+            };
+            self.add(alloc, code, ListOf::Body(func), function.slots)?;
+        }
+        Ok(())
+    }
+
+    /// Adds the branches of `par` and the bodies of `split`.
+    fn add_branches(&mut self, alloc: Global, code: &Code) -> Result<(), AllocError>
+        requires { IsFlatProgram (code_shown code.now) self.old }
+        ensures { IfOk result (λ _. IsFlatProgram (code_shown code.now) self.new) }
+    {
+        let owners = owners(alloc, code)?;
+        let mut number = 0u32;
+        for slots in &owners {
+            self.add_inside(alloc, code, number, *slots)?;
+            number = number.saturating_add(1);
+        }
+        Ok(())
+    }
+
+    /// Adds what a thread runs of a node as a list of its own.
+    fn add_inside(
+        &mut self,
+        alloc: Global,
+        code: &Code,
+        number: u32,
+        slots: u16,
+    ) -> Result<(), AllocError>
+        requires { IsFlatProgram (code_shown code.now) self.old }
+        ensures { IfOk result (λ _. IsFlatProgram (code_shown code.now) self.new) }
+    {
+        let Some(node) = code.node(number) else {
+            return Ok(());
+        };
+        match &node.kind {
+            NodeKind::Both { .. } => {
+                self.add(alloc, code, ListOf::Left(number), slots)?;
+                self.add(alloc, code, ListOf::Right(number), slots)
+            }
+            NodeKind::Split { .. } => self.add(alloc, code, ListOf::Inside(number), slots),
+            _ => Ok(()),
+        }
+    }
+
+    /// Adds a list of a function with so many slots.
+    fn add(
+        &mut self,
+        alloc: Global,
+        code: &Code,
+        list: ListOf,
+        slots: u16,
+    ) -> Result<(), AllocError>
+        requires { IsFlatProgram (code_shown code.now) self.old }
+        ensures { IfOk result (λ _. IsFlatProgram (code_shown code.now) self.new) }
+    {
+        let Some(size) = size_for(code, list, slots) else {
+            return Ok(());
+        };
+        match flat_list(alloc, code, list, slots, size) {
+            Ok(flat) => self.put(code, flat),
+            Err(LowerFail::OutOfMemory) => Err(AllocError),
+            Err(LowerFail::TooLong) => Ok(()),
+        }
+    }
+
+    /// Puts a list after the others, and notes where its frames begin.
+    fn put(&mut self, code: &Code, flat: FlatList) -> Result<(), AllocError>
+        requires program { IsFlatProgram (code_shown code.now) self.old }
+        requires list { IsFlatList (code_shown code.now) flat }
+        ensures { IfOk result (λ _. IsFlatProgram (code_shown code.now) self.new) }
+    {
+        let Ok(number) = u32::try_from(self.lists.len()) else {
+            return Ok(());
+        };
+        self.lists.reserve(1)?;
+        note_all(&mut self.starts, code, &flat, number);
+        self.lists.push_reserved(flat);
+        Ok(())
+    }
+}
+
+/// The length of a row that has room for the intermediate numbers of a list.
+fn size_for(code: &Code, list: ListOf, slots: u16) -> Option<u16>
+    ensures { IfSome result (λ size. CanBeFlat (code_shown code.now) slots size list) }
+{
+    for more in 0..MOST_NUMBERS {
+        let size = slots.saturating_add(more);
+        if can_be_flat(code, list, slots, size) {
+            return Some(size);
+        }
+    }
+    None
+}
+
+/// The flat code of a list.
+///
+/// # Errors
+///
+/// There is not enough memory, or there are too many places.
+fn flat_list(
+    alloc: Global,
+    code: &Code,
+    list: ListOf,
+    slots: u16,
+    size: u16,
+) -> Result<FlatList, LowerFail>
+    requires { CanBeFlat (code_shown code.now) slots size list }
+    ensures { IfOk result (IsFlatList (code_shown code.now)) }
+{
+    let places = lower_whole(alloc, code, list, slots, size)?;
+    Ok(FlatList {
+        places,
+        slots,
+        size,
+    })
+}

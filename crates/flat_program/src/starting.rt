@@ -1,0 +1,115 @@
+//! Where frames begin in flat code.
+
+ghost use Rattle.std.specs.Prelude.{◌≡◌, List, Some, IsTrue, All, slice_get};
+ghost use Rattle.node_table.specs.Codes.{code_shown};
+ghost use Rattle.flat_code.specs.Shown.{flat_shown};
+ghost use Rattle.flat_code.specs.Starts.{IsWithinStatement};
+ghost use Rattle.flat_program.specs.Programs.{IsFlatList, StartsIn};
+ghost use Rattle.flat_program.specs.declared.flat_list.FlatList as lists;
+
+use crate::flat_list::FlatList;
+use crate::flat_start::FlatStart;
+use flat_code::{Instruction, Place};
+use node_table::Code;
+use thread_stack::{Frame, numbers};
+
+/// The number of a frame's entry in the table of starts.
+#[inline(always)]
+pub(crate) fn entry_of(code: &Code, frame: Frame) -> Option<usize> {
+    match frame {
+        Frame::Statements { list, next } => {
+            let number = numbers(code, list).get(next)?;
+            Some(*number as usize * 2)
+        }
+        Frame::Again(number) => Some(number as usize * 2 + 1),
+        _ => None,
+    }
+}
+
+/// Notes where a frame begins.
+fn note(starts: &mut Vec<Option<FlatStart>>, code: &Code, frame: Frame, start: FlatStart)
+    ensures { (ls : List lists.FlatList) → StartsIn (code_shown code.now) ls (Some start)
+        → All (StartsIn (code_shown code.now) ls) starts.old.items → All (StartsIn (code_shown code.now) ls) starts.new.items }
+{
+    let Some(entry) = entry_of(code, frame) else {
+        return;
+    };
+    if entry < starts.len() {
+        starts[entry] = Some(start);
+    }
+}
+
+/// Whether two frames are the same.
+fn same_frame(one: Frame, other: Frame) -> bool
+    ensures { one ≡ other → IsTrue result }
+{
+    one == other
+}
+
+/// Whether two marks have different lengths or different next frames.
+fn have_other_tops(one: &[Frame], other: &[Frame]) -> bool
+    ensures { IsTrue result → one.now ≡ other.now → ⊥ }
+{
+    if one.len() != other.len() {
+        return true;
+    }
+    for i in 0..one.len() {
+        if !same_frame(one[i], other[i]) {
+            return true;
+        }
+    }
+    false
+}
+
+/// Whether a place has another mark than the place before it.
+fn is_first(places: &[Place], at: usize) -> bool
+    ensures { IsTrue result → IsWithinStatement (flat_shown places.now) at → ⊥ }
+{
+    if at == 0 {
+        return true;
+    }
+    let Some(before) = places.get(at - 1) else {
+        return false;
+    };
+    let Some(here) = places.get(at) else {
+        return false;
+    };
+    have_other_tops(&before.mark, &here.mark)
+}
+
+/// Notes where the frame of a place begins, if it begins there. A jump is left out, since it leads to where the same frames begin.
+fn note_at(
+    starts: &mut Vec<Option<FlatStart>>,
+    code: &Code,
+    flat: &FlatList,
+    list: u32,
+    place: usize,
+)
+    requires { IsFlatList (code_shown code.now) flat.now }
+    ensures { (ls : List lists.FlatList) → slice_get ls list ≡ Some flat.now
+        → All (StartsIn (code_shown code.now) ls) starts.old.items → All (StartsIn (code_shown code.now) ls) starts.new.items }
+{
+    let Some(here) = flat.places.get(place) else {
+        return;
+    };
+    if matches!(here.what, Instruction::Jump(_)) {
+        return;
+    }
+    if !is_first(&flat.places, place) {
+        return;
+    }
+    if let Some(frame) = here.mark.last() {
+        note(starts, code, *frame, FlatStart { list, place });
+    }
+}
+
+/// Notes where the frames of a list begin.
+pub(crate) fn note_all(starts: &mut Vec<Option<FlatStart>>, code: &Code, flat: &FlatList, list: u32)
+    requires { IsFlatList (code_shown code.now) flat.now }
+    ensures { (ls : List lists.FlatList) → slice_get ls list ≡ Some flat.now
+        → All (StartsIn (code_shown code.now) ls) starts.old.items → All (StartsIn (code_shown code.now) ls) starts.new.items }
+{
+    for place in 0..flat.places.len() {
+        note_at(starts, code, flat, list, place);
+    }
+}
