@@ -4,4 +4,6 @@ pub mod Following
 pub mod Ending
 pub mod Stepping
 pub mod Behind
+pub mod Ways
+pub mod Turns
 mod Examples

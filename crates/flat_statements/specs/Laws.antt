@@ -3,7 +3,7 @@ use Rattle.std.specs.Prelude.{◌≡◌, ℕ, suc, ◌+◌, List, [], ◌∷◌,
 use Rattle.depth_first_run.specs.Passed.Tree.{Func}
 use Rattle.depth_first_run.specs.States.{Setting, State}
 use Rattle.depth_first_run.specs.Middle as middles
-use Rattle.depth_first_run.specs.Middle.{step_frame}
+use Rattle.depth_first_run.specs.Middle.{Middle, step_frame}
 use Rattle.node_table.specs.Names.{slot_names}
 use Rattle.node_table.specs.Table.{Table}
 use Rattle.slot_store.specs.Rows.{Entry}
@@ -13,10 +13,10 @@ use Rattle.thread_stack.specs.declared.list_of.ListOf.{ListOf}
 use Rattle.thread_stack.specs.Lists.{kind_at, numbers_from}
 use Rattle.thread_stack.specs.Frames.{AreFrames}
 use Rattle.flat_statements.specs.Flat.{FlatCode, frames_at, Point, IsEnd, flat_step, Runs}
-use Rattle.flat_statements.specs.Threads.{Standing, standing, rest_of, thread_step, with_behind}
+use Rattle.flat_statements.specs.Threads.{Standing, standing, rest_of, thread_step, with_behind, with_turns, IsStepWithMore}
 use Rattle.flat_statements.specs.Codes.{IsByItself, IsWholeCode}
-use Rattle.flat_statements.specs.Runs.{IsInState, IsStepOf}
-use Rattle.flat_statements.specs.Follows.{Reaches, IsCodeOf, StandsFor, Follows, EndsWithin}
+use Rattle.flat_statements.specs.Runs.{IsInState, IsStepOf, IsWayOf}
+use Rattle.flat_statements.specs.Follows.{Reaches, IsCodeOf, StandsFor, Follows, Steps, EndsWithin}
 
 -- where the machine represents a thread, the mark of its place is the frames of the thread
 abbrev pub MarksAreFrames : Type 0
@@ -59,3 +59,14 @@ ThreadStepsAreOfTheRun =
     (c : Setting) (t : Table) (g : Func) (gs : List Func) (s : Standing) (f : middles.Frame) (fs : List middles.Frame) (at : State)
     → AreFrames c.program t (g ∷ gs) s.frames (f ∷ fs) → IsInState (slot_names g) s.row s.turns at
     → IsStepOf c t (g ∷ gs) at (step_frame c f fs at) (thread_step t s)
+
+-- so many steps of a thread are as many steps of the depth-first run, which do no action
+abbrev pub ThreadWaysAreOfTheRun : Type 0
+ThreadWaysAreOfTheRun =
+    (c : Setting) (t : Table) (g : Func) (gs : List Func) (zs : List Frame) (s u : Standing) → Steps t s u → (m : Middle)
+    → AreFrames c.program t (g ∷ gs) (s.frames ++ zs) m.frames → IsInState (slot_names g) s.row s.turns m.state
+    → IsWayOf c t (g ∷ gs) zs m u
+
+-- A step of a thread that has more turns is the same, unless there is no turn without them.
+abbrev pub TurnsStay : Type 0
+TurnsStay = (t : Table) (more : ℕ) (s : Standing) → IsStepWithMore more (thread_step t s) (thread_step t (with_turns more s))

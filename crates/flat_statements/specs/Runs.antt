@@ -1,12 +1,14 @@
 -- How a step of a thread over slots is a step of the depth-first run.
-use Rattle.std.specs.Prelude.{◌≡◌, ℕ, ◌≤◌, false, List, [], ◌++◌, length}
+use Rattle.std.specs.Prelude.{◌≡◌, ℕ, ◌≤◌, false, List, [], ◌∷◌, ◌++◌, length}
 use Rattle.depth_first_run.specs.Passed.Tree.{Name, Func}
 use Rattle.depth_first_run.specs.States.{Setting, State, Item, began, with_item, with_fault}
 use Rattle.depth_first_run.specs.Run.{actions_of}
-use Rattle.depth_first_run.specs.Middle.{Middle}
+use Rattle.depth_first_run.specs.Middle as middles
+use Rattle.depth_first_run.specs.Middle.{Middle, step_frame}
 use Rattle.node_table.specs.Table.{Table}
 use Rattle.slot_store.specs.Rows.{Entry, blocks_at}
 use Rattle.slot_store.specs.Agreement.{ShowsStore}
+use Rattle.thread_stack.specs.declared.frame.Frame.{Frame}
 use Rattle.thread_stack.specs.Frames.{AreFrames, names_now}
 use Rattle.flat_statements.specs.Flat.{Came, goes_to, meets, stops}
 use Rattle.flat_statements.specs.Threads.{Standing}
@@ -26,3 +28,19 @@ IsStepOf c t gs s m (goes_to after) =
     × (m.state ≡ record s { store = m.state.store; turns = m.state.turns; items = s.items ++ new }) × (actions_of new ≡ [])
 IsStepOf c t gs s m (meets kind) = (line : ℕ) × (m.state ≡ with_fault kind line (with_item (began line) s))
 IsStepOf c t gs s m stops = Unit {0}
+
+-- steps of the depth-first run that do no action lead from one middle to another
+pub data RunsFor (c : Setting) : Middle → Middle → Type 0 where
+  rests : {m : Middle} → RunsFor c m m
+  goes : {m to : Middle} → (f : middles.Frame) (fs : List middles.Frame) (new : List Item) → m.frames ≡ f ∷ fs
+      → (step_frame c f fs m.state).state.items ≡ m.state.items ++ new → actions_of new ≡ [] → RunsFor c (step_frame c f fs m.state) to → RunsFor c m to
+
+-- So the depth-first run comes from m to where the thread has the frames of u, with zs after them, and the row and the turns of u.
+pub record IsWayOf (c : Setting) (t : Table) (gs : List Func) (zs : List Frame) (m : Middle) (u : Standing) : Type 0 where
+  pub to : Middle
+  pub new : List Item
+  pub runs : RunsFor c m to
+  pub frames : AreFrames c.program t gs (u.frames ++ zs) to.frames
+  pub state : IsInState (names_now gs) u.row u.turns to.state
+  pub same : to.state ≡ record m.state { store = to.state.store; turns = to.state.turns; items = m.state.items ++ new }
+  pub quiet : actions_of new ≡ []

@@ -1,6 +1,6 @@
 -- One step of a thread over slots, by its next frame: the frames that it has after the step, its row and its turns. Statements that act,
 -- call, print or split are not done here.
-use Rattle.std.specs.Prelude.{ℕ, zero, suc, ◌+◌, Bool, true, false, List, [], ◌∷◌, ◌++◌, Option, Some, None, Result, Ok, Err}
+use Rattle.std.specs.Prelude.{◌≡◌, ℕ, zero, suc, ◌+◌, Bool, true, false, List, [], ◌∷◌, ◌++◌, Option, Some, None, Result, Ok, Err}
 use Rattle.dag_order.specs.declared.fault.FaultKind.{FaultKind}
 use Rattle.dag_order.specs.declared.fault.FaultKind.TheVariants as faults
 use Rattle.depth_first_run.specs.Values.{Outcome, is_true}
@@ -96,3 +96,13 @@ abbrev pub with_behind : List Frame → Came Standing → Came Standing
 with_behind zs (goes_to s) = goes_to (standing (s.frames ++ zs) s.row s.turns)
 with_behind zs (meets kind) = meets kind
 with_behind zs stops = stops
+
+-- with more turns
+abbrev pub with_turns : ℕ → Standing → Standing
+with_turns more s = standing s.frames s.row (s.turns + more)
+
+-- what a step gives with more turns, by what it gives without: the same with more turns; the same fault, unless it is that no turn is left
+abbrev pub IsStepWithMore : ℕ → Came Standing → Came Standing → Type 0
+IsStepWithMore more (goes_to after) c = c ≡ goes_to (with_turns more after)
+IsStepWithMore more (meets kind) c = (kind ≡ faults.Turns → ⊥) → c ≡ meets kind
+IsStepWithMore more stops c = c ≡ stops

@@ -1,5 +1,5 @@
 ghost use Rattle.flat_statements.specs.Laws.{MarksAreFrames, MachineFollowsTheThread, MachineEndsWithTheThread, WholeListsAreCode, CodeGoesOn};
-ghost use Rattle.flat_statements.specs.Laws.{FramesBehindStay, ThreadStepsAreOfTheRun};
+ghost use Rattle.flat_statements.specs.Laws.{FramesBehindStay, ThreadStepsAreOfTheRun, ThreadWaysAreOfTheRun, TurnsStay};
 
 /// The mark of the machine's place is the frames of the thread that it represents.
 pub fn marks_are_frames()
@@ -34,4 +34,14 @@ pub fn frames_behind_stay()
 /// Each step of a thread over slots is the step of the depth-first run.
 pub fn thread_steps_are_of_the_run()
     ensures { ThreadStepsAreOfTheRun }
+{}
+
+/// So many steps of a thread over slots are as many steps of the depth-first run, which do no action.
+pub fn thread_ways_are_of_the_run()
+    ensures { ThreadWaysAreOfTheRun }
+{}
+
+/// A step of a thread that has more turns is the same, unless there is no turn without them.
+pub fn turns_stay()
+    ensures { TurnsStay }
 {}

@@ -15,7 +15,8 @@
 //! machine holds no frames: where it ends it reads them off its place, and by [`machine_ends_with_the_thread`] the thread ends there too. [`whole_lists_are_code`] says where it begins,
 //! [`code_goes_on`] where it goes on after a statement that the thread did by itself, and
 //! [`thread_steps_are_of_the_run`] that a step of a thread over slots is the step of the depth-first run, where the row shows the store of
-//! a state and the thread's frames are the run's.
+//! a state and the thread's frames are the run's; by [`thread_ways_are_of_the_run`] so many steps are as many of the run, none of them an
+//! action, whatever frames are after the function's. [`turns_stay`] lets a thread be given some of its turns alone.
 //!
 //! `flat_code` has Rust types of code and marks, and makes such code of each list of a program's table, if the row has room for the
 //! temporary slots. `flat_run` has the loop that runs it.
@@ -40,5 +41,6 @@ mod laws;
 
 pub use laws::{
     code_goes_on, frames_behind_stay, machine_ends_with_the_thread, machine_follows_the_thread,
-    marks_are_frames, thread_steps_are_of_the_run, whole_lists_are_code,
+    marks_are_frames, thread_steps_are_of_the_run, thread_ways_are_of_the_run, turns_stay,
+    whole_lists_are_code,
 };
