@@ -1,16 +1,14 @@
 -- What an owner does is what its looks show.
 use Rattle.std.proofs.Common.{◌≡◌, ◌≢◌, ℕ, ◌+◌, ◌<◌, ◌≤◌, nat_le, cond, true, false, Bool, List, [], ◌∷◌, ◌++◌, inl, inr, refl, sym, ap, subst, ◌∙◌, arith}
-use Rattle.std.specs.Prelude.{Option}
 use Rattle.open_periods.specs.Passed.Actions.{Deed, forks, joins, allocates, releases, dummy, faults, ends}
 use Rattle.open_periods.specs.Passed.Facts.{deed_at, words_at}
 use Rattle.open_periods.specs.Passed.DepthFirstListRuns.{IsDepthFirst}
 use Rattle.dag_order.specs.declared.action_id.ActionId.{ActionId}
-use Rattle.deque_list.specs.declared.deque_id.DequeId.{DequeId}
 use Rattle.deque_machine.specs.Lists.{Among}
 use Rattle.deque_machine.specs.Books.{charge, charge_at}
 use Rattle.deque_machine.proofs.Lists.{among_here}
 use Rattle.deque_machine.specs.Moments.{Moment}
-use Rattle.deque_machine.specs.Machine.{Setting, Event, does}
+use Rattle.deque_machine.specs.Machine.{Setting, does}
 use Rattle.moment_laws.specs.Passed.Parts.{Child, Thread, Result, IsKept}
 use Rattle.moment_laws.specs.Passed.MomentShownEvents.{IsNextOf, MayDo}
 use Rattle.moment_laws.specs.Passed.ListChangesEvents.{DidJoin}
@@ -18,10 +16,9 @@ use Rattle.hall_machine.specs.Values.{Hall}
 use Rattle.hall_machine.specs.Steps.{Step}
 use Rattle.hall_machine.specs.Standing.{HallStands}
 use Rattle.hall_machine.specs.Writing.{IsAtWork, ActsInLane, acts_alone, joins_handed, forks_child, IsHanded}
-use Rattle.hall_machine.specs.Receipts.{Look, SawLane}
-use Rattle.hall_interleavings.specs.Events.{ActsOn, acts_in_lane, joins_in_lane, runs_dummy, ends_above, ends_and_wakes, ends_and_leaves, root_ends, joins_kept, PausesOn, gives_up_forced, waits_for_child}
+use Rattle.hall_machine.specs.Receipts.{Look}
 use Rattle.hall_interleavings.specs.Needs.{NeedsList, for_join}
-use Rattle.hall_interleavings.specs.Decisions.{SawList, Decides, decides_give_up, decides_wait, decides_join, decides_action, ActionsAreShown, PausesAreShown}
+use Rattle.hall_interleavings.specs.Decisions.{Decides, decides_join, decides_action}
 use Rattle.hall_interleavings.proofs.Top.{used_within, kept_is_missing}
 
 -- an action that a thread does by itself joins nobody, and fits
@@ -99,43 +96,3 @@ module _ (s : Setting) (some : 0 < s.quota) (list : IsDepthFirst s.quota s.list)
 
     pub needs : NeedsList s.list w.top w.under (does place)
     needs = for_join place is_handed.child is_next.does there (kept_is_missing s some list h steps m at worker w is_handed.child there kept)
-
-    pub kept_joined : SawList looks h.list → Decides s looks w.top w.period (does place)
-    kept_joined saw = decides_join place is_handed.child is_next there (inr (h.list, saw, kept))
-
-  pub action_is_decided : (place : ℕ) (name : ActionId) (after : Hall) (deque : Option DequeId) → (NeedsList s.list w.top w.under (does place) → SawList looks h.list)
-      → ActsOn s h w place name after deque → Decides s looks w.top w.period (does place)
-  action_is_decided place name after deque saw (acts_in_lane threads words births pool acts takes) = in_lane place name threads words births acts
-  action_is_decided place name after deque saw (joins_in_lane new words join none) = joined_in_lane place name new words join
-  action_is_decided place name after deque saw (runs_dummy new d) = decides_action place dummy d.next (λ n. λ is. cc) (fits_free place dummy d.next.does refl)
-  action_is_decided place name after deque saw (ends_above parent handed below result pool under end is_handed takes) = ended place end.next
-  action_is_decided place name after deque saw (ends_and_wakes before later waiting parent handed newest older result pool alone waits children is end is_handed takes same) = ended place end.next
-  action_is_decided place name after deque saw (ends_and_leaves result results pool alone unwaited end takes same) = ended place end.next
-  action_is_decided place name after deque saw (root_ends result results pool alone unwaited end takes same is_root no_end) = ended place end.next
-  action_is_decided place name after deque saw (joins_kept before later results result handed new words pool are is_handed newest join takes same) =
-      kept_joined place name before later result handed new words are is_handed newest join
-      (saw (needs place name before later result handed new words are is_handed newest join))
-
-pub actions_are_shown : (s : Setting) → 0 < s.quota → IsDepthFirst s.quota s.list → ActionsAreShown s
-actions_are_shown s some list limits h after steps m leads count views v w place name deque looks state lane saw acts = record {
-  top = w.top;
-  under = w.under;
-  period = w.period;
-  lane = subst (SawLane looks w.id) w.lane_is lane;
-  decides = action_is_decided s some list h steps m state.stands v.worker w looks place name after deque saw acts;
-}
-
-pause_is_decided : (s : Setting) (h : Hall) (worker : ℕ) (w : IsAtWork h worker) (event : Event) (told : Rattle.hall_machine.specs.Steps.Told) (after : Hall) (looks : List Look) → SawList looks h.list
-    → PausesOn s h w event told after → Decides s looks w.top w.period event
-pause_is_decided s h worker w event told after looks saw (gives_up_forced place deed next full) = decides_give_up place deed next full
-pause_is_decided s h worker w event told after looks saw (waits_for_child place newest older waiting next children open_child no_result alone same) =
-    decides_wait place newest next (subst (Among newest) (sym children) (inl refl)) (open_child, h.list, saw, no_result)
-
-pub pauses_are_shown : (s : Setting) → PausesAreShown s
-pauses_are_shown s h after worker w event told looks lane saw pauses = record {
-  top = w.top;
-  under = w.under;
-  period = w.period;
-  lane = subst (SawLane looks w.id) w.lane_is lane;
-  decides = pause_is_decided s h worker w event told after looks saw pauses;
-}

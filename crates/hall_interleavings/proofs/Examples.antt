@@ -2,29 +2,24 @@
 -- forks, the second steals the root, the child ends, the root joins it and ends, and the second seat leaves and is joined into the first.
 use Rattle.std.proofs.Common.{◌≡◌, false, true, List, [], ◌∷◌, refl, arith}
 use Rattle.std.specs.Prelude.{None, Some, pos, neg_ℤ}
-use Rattle.std.proofs.lemmas.List.Sorted.{IsPermutation-refl}
 use Rattle.dag_order.specs.declared.action_id.ActionId.{ActionId}
 use Rattle.dag_order.specs.Births.{root}
 use Rattle.deque_list.specs.Ids.{deque_id}
-use Rattle.deque_machine.specs.Moments.{Moment}
 use Rattle.deque_machine.specs.Machine.{steals, does}
 use Rattle.open_periods.specs.Periods.{Period}
 use Rattle.open_periods.specs.Tables.{noted, shut}
 use Rattle.moment_laws.specs.Passed.Parts.{Thread, Result}
-use Rattle.hall_machine.specs.Values.{PoolShown, Hall, finished, no_lane}
-use Rattle.hall_machine.specs.Steps.{Step, stole, did, run_of, Leads}
+use Rattle.hall_machine.specs.Values.{PoolShown, Hall, no_lane}
+use Rattle.hall_machine.specs.Steps.{Step, stole, did, run_of}
 use Rattle.hall_machine.specs.Writing.{place_of, lane_with, IsAtWork, new_period}
-use Rattle.hall_machine.specs.Writing as writing
-use Rattle.hall_machine.proofs.Examples.{one_fork, one_fork_is_depth_first, root_thread, first_list, empty_pool, first, taken, theft, child_id, child_thread, forked_root, first_name, fork_moved, pool_now, forked, at_work, fork, stolen, second_theft}
-use Rattle.hall_machine.specs.Views.{View, fresh, joined}
+use Rattle.hall_machine.proofs.Examples.{one_fork, root_thread, first_list, empty_pool, first, taken, theft, child_id, child_thread, forked_root, first_name, fork_moved, forked, fork, stolen, second_theft}
+use Rattle.hall_machine.specs.Views.{View, fresh}
 use Rattle.hall_machine.specs.Changes.{after_event}
-use Rattle.hall_machine.specs.Seats.{with_crew, entering, leaving, with_places_of}
-use Rattle.hall_machine.specs.Closing.{GivesOneRun}
+use Rattle.hall_machine.specs.Seats.{entering}
 use Rattle.hall_machine.proofs.WorkedStates.{some_limits}
-use Rattle.hall_interleavings.specs.Events.{Snapshot, seen, acts_in_lane, ends_and_leaves, joins_kept, root_ends, steals_beside, takes_over, does_an_action, steals_a_thread}
-use Rattle.hall_interleavings.specs.Others.{counts_below, enters_by, splits_off, leaves_idle, joins_into}
-use Rattle.hall_interleavings.specs.Sequences.{IsBeginning, Sequence, begins, then_event, then_other, ShowsMoment, EachShows}
-use Rattle.hall_interleavings.proofs.Running.{seats_make_one_run, sequences_show_moments}
+use Rattle.hall_interleavings.specs.Events.{Snapshot, seen, takes_over, steals_a_thread}
+use Rattle.hall_interleavings.specs.Others.{enters_by, splits_off}
+use Rattle.hall_interleavings.specs.Sequences.{IsBeginning, Sequence, begins, then_event, then_other}
 
 -- ---- it begins with one seat, which has both places; worker 1 enters by it, and gets a seat
 
@@ -70,28 +65,6 @@ it_steals_the_root = then_event [] with_two has_stolen theft two_seats
     (steals_a_thread 0 (fresh 0 1) 0 (deque_id 0) taken (record { noted = refl; placed = omega arith; stays = refl }) refl
     (takes_over [] [] (deque_id 0) root_thread (omega arith) refl refl))
 
-it_forks : Sequence one_fork some_limits at_first (fork ∷ theft ∷ []) has_forked
-it_forks = then_event (theft ∷ []) has_counted has_forked fork
-    (then_other (theft ∷ []) has_stolen has_counted it_steals_the_root
-    (counts_below 0 owning (deque_id 0) (record { noted = refl; placed = omega arith; stays = refl }) refl refl refl (omega arith)))
-    (does_an_action 0 counting at_work 0 first_name forked (Some (deque_id 0)) (record { noted = refl; placed = omega arith; stays = refl }) refl
-    (acts_in_lane (child_thread ∷ forked_root ∷ []) 16 (record { parent = root; ordinal = 1 } ∷ []) pool_now
-    (writing.forks_child forked_root child_thread 16 1 (record {
-      next = record { inside = omega arith; by = refl; index = refl; does = refl };
-      fits = omega arith;
-      acted = record { same_id = refl; same_parent = refl; same_label = refl; same_func = refl; one_more = refl };
-      child_id = refl;
-      child_parent = refl;
-      child_label = refl;
-      child_done = refl;
-      child_children = refl;
-      children = refl;
-      sum = refl;
-      named = refl;
-      charged = refl;
-    }))
-    (record { live = refl; move = fork_moved; by = refl; change = refl; moves = refl })))
-
 -- ---- seat 1 steals the root, which waits at the bottom
 
 abbrev stealing : View
@@ -102,11 +75,6 @@ both_own = seen stolen 1 (forking ∷ stealing ∷ [])
 
 abbrev three : List Step
 three = second_theft ∷ fork ∷ theft ∷ []
-
-it_steals : Sequence one_fork some_limits at_first three both_own
-it_steals = then_event (fork ∷ theft ∷ []) has_forked both_own second_theft it_forks
-    (steals_a_thread 1 (fresh 1 1) 0 (deque_id 1) stolen (record { noted = refl; placed = omega arith; stays = refl }) refl
-    (steals_beside [] [] (place_of (deque_id 0) (Some 0)) (deque_id 1) child_thread forked_root [] _ (omega arith) refl refl (λ is. absurd (omega (arith, is)), tt) (omega arith)))
 
 -- ---- the child ends, alone in its deque: its result is kept, and seat 0 is idle
 
@@ -157,20 +125,6 @@ child_counted = seen stolen 2 (record forking { counting = true } ∷ stealing �
 abbrev child_ended : Snapshot
 child_ended = seen ended 2 (idle ∷ stealing ∷ [])
 
-it_ends : Sequence one_fork some_limits at_first (child_end ∷ three) child_ended
-it_ends = then_event three child_counted child_ended child_end
-    (then_other three both_own child_counted it_steals
-    (counts_below 0 forking (deque_id 0) (record { noted = refl; placed = omega arith; stays = refl }) refl refl refl (omega arith)))
-    (does_an_action 0 (record forking { counting = true }) child_at_work 1 child_name ended None (record { noted = refl; placed = omega arith; stays = refl }) refl
-    (ends_and_leaves child_result (child_result ∷ []) pool_after refl tt
-    (record {
-      next = record { inside = omega arith; by = refl; index = refl; does = refl };
-      left_by = record { same_id = refl; same_label = refl; same_func = refl; words = refl };
-      named = refl;
-    })
-    (record { live = refl; move = record { by = child_name; change = neg_ℤ (pos 16) }; by = refl; change = refl; moves = refl })
-    (IsPermutation-refl (child_result ∷ []))))
-
 -- ---- the root joins the kept result
 
 abbrev join_name : ActionId
@@ -184,13 +138,6 @@ joined_root = record root_thread { done = 2 }
 
 abbrev second_period : Period
 second_period = noted (new_period 1 true 2) join_name 0 []
-
-abbrev has_joined : Hall
-has_joined = record {
-  list = record ended.list { results = [] };
-  pool = pool_after;
-  lanes = no_lane ∷ lane_with (joined_root ∷ []) (Some second_period) ∷ [];
-}
 
 abbrev root_at_work : IsAtWork ended 1
 root_at_work = record {
@@ -213,44 +160,6 @@ joining = after_event (record stealing { counting = true }) (Some (deque_id 1)) 
 abbrev join_counted : Snapshot
 join_counted = seen ended 3 (idle ∷ record stealing { counting = true } ∷ [])
 
-abbrev join_done : Snapshot
-join_done = seen has_joined 3 (idle ∷ joining ∷ [])
-
-it_joins : Sequence one_fork some_limits at_first (join ∷ child_end ∷ three) join_done
-it_joins = then_event (child_end ∷ three) join_counted join_done join
-    (then_other (child_end ∷ three) child_ended join_counted it_ends
-    (counts_below 1 stealing (deque_id 1) (record { noted = refl; placed = omega arith; stays = refl }) refl refl refl (omega arith)))
-    (does_an_action 1 (record stealing { counting = true }) root_at_work 2 join_name has_joined (Some (deque_id 1)) (record { noted = refl; placed = omega arith; stays = refl }) refl
-    (joins_kept [] [] [] child_result handed_root joined_root 0 pool_after refl
-    (record {
-      front = [];
-      child = record { id = child_id; ordinal = 1; func = None; delivered = false };
-      back = [];
-      children_were = refl;
-      child_is = refl;
-      same_id = refl;
-      same_parent = refl;
-      same_label = refl;
-      same_func = refl;
-      same_done = refl;
-      children = refl;
-      words = refl;
-    }) refl
-    (record {
-      newest = record { id = child_id; ordinal = 1; func = None; delivered = true };
-      older = [];
-      children_were = refl;
-      given = refl;
-      next = record { inside = omega arith; by = refl; index = refl; does = refl };
-      acted = record { same_id = refl; same_parent = refl; same_label = refl; same_func = refl; one_more = refl };
-      children = refl;
-      weighs = refl;
-      named = refl;
-      charged = refl;
-    })
-    (record { live = refl; move = record { by = join_name; change = neg_ℤ (pos 0) }; by = refl; change = refl; moves = refl })
-    (IsPermutation-refl [])))
-
 -- ---- the root ends, with which the run has finished
 
 abbrev last_name : ActionId
@@ -259,75 +168,14 @@ last_name = record { by = root; index = 2 }
 abbrev root_result : Result
 root_result = record { id = root; label = []; func = None; words = 0 }
 
-abbrev over : Hall
-over = record {
-  list = record has_joined.list {
-    places = [];
-    results = root_result ∷ [];
-    closed = shut (noted first_period child_name 0 []) ∷ shut (noted second_period last_name 0 []) ∷ [];
-    kept = Some finished;
-  };
-  pool = pool_after;
-  lanes = no_lane ∷ no_lane ∷ [];
-}
-
-abbrev last_at_work : IsAtWork has_joined 1
-last_at_work = record {
-  left = [];
-  id = deque_id 1;
-  right = [];
-  top = joined_root;
-  under = [];
-  period = second_period;
-  places_are = refl;
-  lane_is = refl;
-}
-
 abbrev root_end : Step
 root_end = record { seat = 1; worker = 1; period = 2; event = does 3; told = did last_name }
 
 abbrev done_all : View
 done_all = after_event (record joining { counting = true }) None (did last_name) false
 
-abbrev end_counted : Snapshot
-end_counted = seen has_joined 4 (idle ∷ record joining { counting = true } ∷ [])
-
-abbrev root_ended : Snapshot
-root_ended = seen over 4 (idle ∷ done_all ∷ [])
-
 abbrev five : List Step
 five = root_end ∷ join ∷ child_end ∷ three
-
-it_is_over : Sequence one_fork some_limits at_first five root_ended
-it_is_over = then_event (join ∷ child_end ∷ three) end_counted root_ended root_end
-    (then_other (join ∷ child_end ∷ three) join_done end_counted it_joins
-    (counts_below 1 joining (deque_id 1) (record { noted = refl; placed = omega arith; stays = refl }) refl refl refl (omega arith)))
-    (does_an_action 1 (record joining { counting = true }) last_at_work 3 last_name over None (record { noted = refl; placed = omega arith; stays = refl }) refl
-    (root_ends root_result (root_result ∷ []) pool_after refl tt
-    (record {
-      next = record { inside = omega arith; by = refl; index = refl; does = refl };
-      left_by = record { same_id = refl; same_label = refl; same_func = refl; words = refl };
-      named = refl;
-    })
-    (record { live = refl; move = record { by = last_name; change = neg_ℤ (pos 0) }; by = refl; change = refl; moves = refl })
-    (IsPermutation-refl (root_result ∷ [])) refl refl))
-
--- ---- seat 1 leaves, and is joined into seat 0, which then has all places
-
-abbrev alone : Hall
-alone = with_crew over (0 ∷ []) (Some finished)
-
-abbrev has_left : Snapshot
-has_left = seen alone 4 (idle ∷ leaving done_all ∷ [])
-
-abbrev at_last : Snapshot
-at_last = seen alone 4 (with_places_of idle (leaving done_all) ∷ joined ∷ [])
-
-pub the_sequence : Sequence one_fork some_limits at_first five at_last
-the_sequence = then_other five has_left at_last
-    (then_other five root_ended has_left it_is_over
-    (leaves_idle 1 done_all (0 ∷ []) [] (record { noted = refl; placed = omega arith; stays = refl }) refl refl refl))
-    (joins_into 0 1 idle (leaving done_all) (λ same. absurd (omega (arith, same))) refl refl (omega arith) (omega arith) refl refl)
 
 -- ---- it makes one run, and the closed hall gives it
 
@@ -357,15 +205,6 @@ begins_so = record {
   counted = refl;
   views = refl;
 }
-
-pub the_run : (m : Moment) × (leads : Leads one_fork five m) × EachShows the_sequence m leads
-the_run = seats_make_one_run one_fork (omega arith) one_fork_is_depth_first some_limits at_first at_last five begins_so the_sequence
-
-pub the_last_moment : (m : Moment) × (leads : Leads one_fork five m) × ShowsMoment one_fork some_limits at_last five m leads
-the_last_moment = sequences_show_moments one_fork (omega arith) one_fork_is_depth_first some_limits at_first at_last five begins_so the_sequence
-
-pub the_closed_hall : GivesOneRun one_fork some_limits alone five the_last_moment.0 the_last_moment.1 at_last.views finished
-the_closed_hall = the_last_moment.2.closed finished tt refl
 
 pub the_events : run_of five ≡ record { worker = 0; event = steals 0 0 } ∷ record { worker = 0; event = does 0 } ∷ record { worker = 1; event = steals 0 1 }
     ∷ record { worker = 0; event = does 1 } ∷ record { worker = 1; event = does 2 } ∷ record { worker = 1; event = does 3 } ∷ []

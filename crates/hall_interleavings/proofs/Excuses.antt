@@ -1,5 +1,5 @@
 -- Who is excused, and the lanes of deques whose threads stay.
-use Rattle.std.proofs.Common.{◌≡◌, ℕ, zero, suc, ◌<◌, false, List, [], ◌∷◌, ◌++◌, inl, inr, refl, sym, ap, ◌∙◌, arith}
+use Rattle.std.proofs.Common.{◌≡◌, ℕ, zero, suc, ◌<◌, false, List, [], ◌∷◌, inl, inr, refl, sym, ap, ◌∙◌, arith}
 use Rattle.std.proofs.lemmas.Bool.{cases_eq}
 use Rattle.std.proofs.lemmas.Option.{none-some, same_Some}
 use Rattle.std.specs.Prelude.{Option, None, Some, slice_get, slice_set}
@@ -46,22 +46,6 @@ excused_with views seat v w kept kept_now (Some owner) is own keeps excused = el
       let now = own (ap (λ u. View.left u) (sym its) ∙ excused.4) (ap (λ u. View.found u) (sym its) ∙ excused.5) (ap Some (sym worker)) in
       (seat, w, set_same views seat w v is, now.0 ∙ worker, now.1, now.2)
 ]
-
--- none does
-pub excused_still : (views : List View) (kept kept_now : Option End) (owner : Option ℕ) → ((end : End) → kept ≡ Some end → kept_now ≡ Some end)
-    → IsExcused views kept owner → IsExcused views kept_now owner
-excused_still views kept kept_now None keeps excused = (excused.0, keeps excused.0 excused.1)
-excused_still views kept kept_now (Some owner) keeps excused = excused
-
--- there is a seat more
-get_front : (xs : List View) (y : View) (i : ℕ) (x : View) → slice_get xs i ≡ Some x → slice_get (xs ++ y ∷ []) i ≡ Some x
-get_front [] y i x is = absurd (none-some x is)
-get_front (z ∷ xs) y zero x is = is
-get_front (z ∷ xs) y (suc i) x is = get_front xs y i x is
-
-pub excused_before : (views : List View) (more : View) (kept : Option End) (owner : Option ℕ) → IsExcused views kept owner → IsExcused (views ++ more ∷ []) kept owner
-excused_before views more kept None excused = excused
-excused_before views more kept (Some owner) excused = (excused.0, excused.1, get_front views more excused.0 excused.1 excused.2, excused.3, excused.4, excused.5)
 
 -- who is excused for its own want of memory
 module _ (s : Setting) (limits : Limits) (h : Hall) (steps : List Step) (m : Moment) (leads : Leads s steps m) (count : ℕ) (views : List View) (seat : ℕ) (v : View)

@@ -6,7 +6,7 @@ use Rattle.deque_machine.specs.Lists.{Each}
 use Rattle.deque_machine.proofs.Lists.{each_from, each_among, each_at, each_without}
 use Rattle.moment_laws.proofs.Reordered.{among_moved}
 use Rattle.thread_frames.specs.Points.{IsAtPoint, IsResult}
-use Rattle.hall_interleavings.specs.Ways.{TopsGoOn, ForksGoOn, EndsAboveGoOn, WakingEndsGoOn, LeavingEndsGoOn, KeptJoinsGoOn, WaitsGoOn}
+use Rattle.hall_interleavings.specs.Ways.{EndsAboveGoOn, WakingEndsGoOn, LeavingEndsGoOn, KeptJoinsGoOn}
 
 module _ {X : Type 0} where
   -- what holds of each element holds of each in another order
@@ -15,28 +15,6 @@ module _ {X : Type 0} where
 
   each_is : (P : X → Type 0) (xs ys : List X) → ys ≡ xs → Each P xs → Each P ys
   each_is P xs ys same all = subst (Each P) (sym same) all
-
-pub tops_go_on : TopsGoOn
-tops_go_on t k id x y top now under only was is waiting results moves = record {
-  beside = only;
-  its = λ lane waits kept.
-      let all = subst (Each (IsAtPoint t k)) was lane in (
-        each_is (IsAtPoint t k) (now ∷ under) (y.in_lane id) is (moves all.0, all.1),
-        each_is (IsAtPoint t k) x.waiting y.waiting waiting waits,
-        each_is (IsResult t k) x.results y.results results kept,
-      );
-}
-
-pub forks_go_on : ForksGoOn
-forks_go_on t k id x y top now child under only was is waiting results moves = record {
-  beside = only;
-  its = λ lane waits kept.
-      let all = subst (Each (IsAtPoint t k)) was lane in let both = moves all.0 in (
-        each_is (IsAtPoint t k) (child ∷ now ∷ under) (y.in_lane id) is (both.1, (both.0, all.1)),
-        each_is (IsAtPoint t k) x.waiting y.waiting waiting waits,
-        each_is (IsResult t k) x.results y.results results kept,
-      );
-}
 
 pub ends_above_go_on : EndsAboveGoOn
 ends_above_go_on t k id x y top parent given below ended only was is waiting results leaves gives = record {
@@ -79,16 +57,5 @@ kept_joins_go_on t k id x y top now under ended before later only was had is wai
         each_is (IsAtPoint t k) (now ∷ under) (y.in_lane id) is (joins all.0 (each_at (IsResult t k) before ended later those), all.1),
         each_is (IsAtPoint t k) x.waiting y.waiting waiting waits,
         each_moved (IsResult t k) (before ++ later) y.results moved (each_without (IsResult t k) before ended later those),
-      );
-}
-
-pub waits_go_on : WaitsGoOn
-waits_go_on t k id x y top only was is moved results = record {
-  beside = only;
-  its = λ lane waits kept.
-      let all = subst (Each (IsAtPoint t k)) was lane in (
-        each_is (IsAtPoint t k) [] (y.in_lane id) is tt,
-        each_moved (IsAtPoint t k) (top ∷ x.waiting) y.waiting moved (all.0, waits),
-        each_is (IsResult t k) x.results y.results results kept,
       );
 }

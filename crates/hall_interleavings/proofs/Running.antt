@@ -11,7 +11,7 @@ use Rattle.hall_machine.proofs.First.{first_crew}
 use Rattle.hall_machine.specs.State.{RunningState}
 use Rattle.hall_machine.proofs.Closed.{states_meet_the_law, halls_are_bounded, closed_give_one_run}
 use Rattle.hall_interleavings.specs.Events.{Snapshot}
-use Rattle.hall_interleavings.specs.Sequences.{IsBeginning, Sequence, begins, then_event, then_other, ShowsMoment, EachShows, SeatsMakeOneRun, SequencesShowMoments}
+use Rattle.hall_interleavings.specs.Sequences.{IsBeginning, Sequence, begins, then_event, then_other, ShowsMoment, EachShows, SeatsMakeOneRun}
 use Rattle.hall_interleavings.proofs.Going.{events_go_on}
 use Rattle.hall_interleavings.proofs.Staying.{others_stay}
 
@@ -48,14 +48,3 @@ module _ (s : Setting) (some : 0 < s.quota) (list : IsDepthFirst s.quota s.list)
 pub seats_make_one_run : (s : Setting) → 0 < s.quota → IsDepthFirst s.quota s.list → SeatsMakeOneRun s
 seats_make_one_run s some list limits first now events is sequence =
     let run = runs_on s some list limits first is now events sequence in (run.0, run.1, run.3)
-
-last_shows : (s : Setting) (limits : Limits) (first now : Snapshot) (events : List Step) (sequence : Sequence s limits first events now) (m : Moment) (leads : Leads s events m)
-    → EachShows sequence m leads → ShowsMoment s limits now events m leads
-last_shows s limits first now events begins m leads shown = shown
-last_shows s limits first now events (then_event told before after step earlier event) m leads shown = shown.0
-last_shows s limits first now events (then_other told before after earlier other) m leads shown = shown.0
-
-pub sequences_show_moments : (s : Setting) → 0 < s.quota → IsDepthFirst s.quota s.list → SequencesShowMoments s
-sequences_show_moments s some list limits first now events is sequence =
-    let run = seats_make_one_run s some list limits first now events is sequence in
-    (run.0, run.1, last_shows s limits first now events sequence run.0 run.1 run.2)

@@ -18,11 +18,6 @@ module _ {T : Type 0} (At : T → Type 0) (views : List View) (kept : Option End
   lane_at_place : (place : Place) → Among place places → LaneAtPoints At (IsExcused views kept place.owner) (lanes place.id)
   lane_at_place place there = each_among (λ p. LaneAtPoints At (IsExcused views kept p.owner) (lanes p.id)) place places were there
 
-  -- a thread below others, and all of a deque that nobody owns while no end is kept
-  pub bottom_at : (id : DequeId) (owner : Option ℕ) (first bottom : T) (others : List T) → Among (place_of id owner) places → lanes id ≡ first ∷ (others ++ bottom ∷ []) → At bottom
-  bottom_at id owner first bottom others there are =
-      each_at At others bottom [] (subst (LaneAtPoints At (IsExcused views kept owner)) are (lane_at_place (place_of id owner) there)).1
-
   pub unowned_at : (id : DequeId) → Among (place_of id None) places → kept ≡ None → Each At (lanes id)
   unowned_at id there none = none_excused At (IsExcused views kept None) (λ excused. none-some excused.0 (sym none ∙ excused.1)) (lanes id) (lane_at_place (place_of id None) there)
 

@@ -1,15 +1,9 @@
 pub mod Events
 pub mod Others
 pub mod Sequences
-pub mod Told
 pub mod Needs
-pub mod Looks
 pub mod Decisions
-pub mod Turns
 pub mod Thefts
-pub mod Refusals
 pub mod Placed
 pub mod EventsAtPoints
-pub mod OthersAtPoints
 pub mod Ways
-pub mod SequencesAtPoints

@@ -1,10 +1,9 @@
 -- Which slots an event of an owner needs besides its own lane.
-use Rattle.std.specs.Prelude.{◌≡◌, ℕ, true, false, List, []}
+use Rattle.std.specs.Prelude.{◌≡◌, ℕ, false, List, []}
 use Rattle.open_periods.specs.Passed.Actions.{joins, dummy, ends, Action}
-use Rattle.open_periods.specs.Passed.Facts.{action_at, deed_at}
+use Rattle.open_periods.specs.Passed.Facts.{deed_at}
 use Rattle.deque_machine.specs.Lists.{Among}
 use Rattle.deque_machine.specs.Machine.{Event, does, suspends, gives_up}
-use Rattle.deque_machine.specs.Runs.{is_move}
 use Rattle.moment_laws.specs.Passed.Parts.{Child, Thread}
 
 -- The list, of an owner in whose lane these threads are, the top one first: for a give up, a wait and a Dummy, for an End if the parent is
@@ -16,8 +15,3 @@ pub data NeedsList (l : List Action) (top : Thread) (under : List Thread) : Even
   for_end : (place : ℕ) → deed_at l place ≡ ends → under ≡ [] → NeedsList l top under (does place)
   for_join : (place : ℕ) (child : Child) → deed_at l place ≡ joins child.ordinal → Among child top.children → child.delivered ≡ false
       → NeedsList l top under (does place)
-
--- The pool: for each action that is a move, which are a Fork, an Alloc, a Release, a Fault, the End of a forked thread, and a Join that
--- releases words.
-pub data NeedsPool (l : List Action) : Event → Type 0 where
-  for_move : (place : ℕ) → is_move (action_at l place) ≡ true → NeedsPool l (does place)

@@ -1,5 +1,5 @@
 -- Sequences of steps of the seats of a hall, in whatever order they come, and the run that they make.
-use Rattle.std.specs.Prelude.{◌≡◌, ℕ, ◌<◌, None, Some, List, [], ◌∷◌, ◌++◌}
+use Rattle.std.specs.Prelude.{◌≡◌, ℕ, ◌<◌, None, Some, List, [], ◌∷◌}
 use Rattle.dag_order.specs.Births.{root}
 use Rattle.deque_machine.specs.Lists.{Each}
 use Rattle.deque_machine.specs.Moments.{Moment}
@@ -67,21 +67,6 @@ EachShows {s} {limits} {first} {events} {now} (then_other earlier before after s
 abbrev pub SeatsMakeOneRun : Setting → Type 0
 SeatsMakeOneRun s = (limits : Limits) (first now : Snapshot) (events : List Step) → IsBeginning s first
     → (sequence : Sequence s limits first events now) → (m : Moment) × (leads : Leads s events m) × EachShows sequence m leads
-
--- so does the last one
-abbrev pub SequencesShowMoments : Setting → Type 0
-SequencesShowMoments s = (limits : Limits) (first now : Snapshot) (events : List Step) → IsBeginning s first
-    → Sequence s limits first events now → (m : Moment) × (leads : Leads s events m) × ShowsMoment s limits now events m leads
-
--- an end that is kept stays, whatever the seats do
-abbrev pub KeptEndsStay : Setting → Type 0
-KeptEndsStay s = (limits : Limits) (first now : Snapshot) (events : List Step) (end : End) → Sequence s limits first events now
-    → first.hall.list.kept ≡ Some end → now.hall.list.kept ≡ Some end
-
--- one sequence after another is a sequence, so what came later only adds events
-abbrev pub SequencesJoin : Setting → Type 0
-SequencesJoin s = (limits : Limits) (first middle now : Snapshot) (events more : List Step) → Sequence s limits first events middle
-    → Sequence s limits middle more now → Sequence s limits first (more ++ events) now
 
 -- one event leads from a running state to a running state, at the moment after it
 abbrev pub EventsGoOn : Setting → Type 0

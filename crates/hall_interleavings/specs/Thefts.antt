@@ -3,14 +3,8 @@ use Rattle.std.specs.Prelude.{◌≡◌, ◌≢◌, ◌⊎◌, ℕ, ◌<◌, ◌
 use Rattle.deque_list.specs.declared.deque_id.DequeId.{DequeId}
 use Rattle.deque_list.specs.declared.place.Place.{Place}
 use Rattle.deque_list.specs.Ids.{place_ids, IsSmallestFree}
-use Rattle.deque_machine.specs.Moments.{Moment}
-use Rattle.deque_machine.specs.Machine.{Setting, steals}
-use Rattle.deque_machine.specs.Play.{Limits, Wants}
-use Rattle.hall_machine.specs.Values.{LaneShown, Hall}
-use Rattle.hall_machine.specs.Steps.{Step, Leads}
-use Rattle.hall_machine.specs.Views.{View}
-use Rattle.hall_machine.specs.State.{RunningState, IsIn}
-use Rattle.hall_machine.specs.Receipts.{Look, SawLane, ShowsVictim, SawTheLanes}
+use Rattle.hall_machine.specs.Values.{LaneShown}
+use Rattle.hall_machine.specs.Receipts.{Look, SawLane, ShowsVictim}
 
 -- a deque stays after a theft from it, by these looks: it has an owner or two threads
 abbrev pub ShowsStaying : List Look → Place → Type 0
@@ -31,10 +25,3 @@ pub record ShowsTheft (workers word : ℕ) (looks : List Look) (places : List Pl
   pub victim : Place
   pub there : slice_get places place ≡ Some victim
   pub its_id : ShowsId looks places victim id
-
--- it is the theft that the rules of play want of its worker
-abbrev pub ShownTheftsAreWanted : Setting → Type 0
-ShownTheftsAreWanted s = (limits : Limits) (h : Hall) (steps : List Step) (m : Moment) (leads : Leads s steps m) (count : ℕ)
-    (views : List View) (seat : ℕ) (v : View) (word place : ℕ) (id : DequeId) (looks : List Look)
-    → RunningState s limits h steps m leads count views → IsIn views seat v → v.deque ≡ None → SawTheLanes looks h
-    → ShowsTheft s.workers word looks h.list.places place id → Wants s m v.worker word (steals place id.0)

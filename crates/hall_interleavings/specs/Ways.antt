@@ -13,18 +13,6 @@ use Rattle.hall_interleavings.specs.EventsAtPoints.{GoOnIn}
 abbrev pub OnlyIn : DequeId → Threads → Threads → Type 0
 OnlyIn id before after = (other : DequeId) → other.0 ≢ id.0 → after.in_lane other ≡ before.in_lane other
 
--- the top thread goes on by itself: plain statements, an Alloc, a Release, a Fault, a Dummy, or the Join of a result that it has
-abbrev pub TopsGoOn : Type 0
-TopsGoOn = (t : Table) (k : ℕ) (id : DequeId) (x y : Threads) (top now : Thread) (under : List Thread) → OnlyIn id x y
-    → x.in_lane id ≡ top ∷ under → y.in_lane id ≡ now ∷ under → y.waiting ≡ x.waiting → y.results ≡ x.results
-    → (IsAtPoint t k top → IsAtPoint t k now) → GoOnIn t k id x y
-
--- a Fork: the child is above it
-abbrev pub ForksGoOn : Type 0
-ForksGoOn = (t : Table) (k : ℕ) (id : DequeId) (x y : Threads) (top now child : Thread) (under : List Thread) → OnlyIn id x y
-    → x.in_lane id ≡ top ∷ under → y.in_lane id ≡ child ∷ now ∷ under → y.waiting ≡ x.waiting → y.results ≡ x.results
-    → (IsAtPoint t k top → IsAtPoint t k now × IsAtPoint t k child) → GoOnIn t k id x y
-
 -- an End above the parent, which is given the result
 abbrev pub EndsAboveGoOn : Type 0
 EndsAboveGoOn = (t : Table) (k : ℕ) (id : DequeId) (x y : Threads) (top parent given : Thread) (below : List Thread) (ended : Ended)
@@ -50,8 +38,3 @@ KeptJoinsGoOn = (t : Table) (k : ℕ) (id : DequeId) (x y : Threads) (top now : 
     (before later : List Ended) → OnlyIn id x y → x.in_lane id ≡ top ∷ under → x.results ≡ before ++ ended ∷ later
     → y.in_lane id ≡ now ∷ under → y.waiting ≡ x.waiting → IsPermutation (before ++ later) y.results
     → (IsAtPoint t k top → IsResult t k ended → IsAtPoint t k now) → GoOnIn t k id x y
-
--- a wait: the top thread is among those that wait
-abbrev pub WaitsGoOn : Type 0
-WaitsGoOn = (t : Table) (k : ℕ) (id : DequeId) (x y : Threads) (top : Thread) → OnlyIn id x y → x.in_lane id ≡ top ∷ []
-    → y.in_lane id ≡ [] → IsPermutation (top ∷ x.waiting) y.waiting → y.results ≡ x.results → GoOnIn t k id x y

@@ -5,16 +5,9 @@
 //! step is a constructor over plain values: what it needs of the slots and notes, what it writes, and what the seat notes. A sequence is
 //! any list of such steps from a hall that begins, by any seats in any order.
 //!
-//! The crate has definitions and laws alone. It uses the running state (`hall_machine`) and threads (`thread_frames`). Its theorems:
-//!
-//! - [`run_laws::seats_make_one_run`]: however the steps are interleaved, the hall shows at each time a moment of one run, whose events are
-//!   theirs. The words in use are within the bound of that run, and a hall that is closed gives its books and moves.
-//! - [`receipt_laws`]: the looks of a seat (the slots that it took, with what they showed, those that another held, the counts that it drew)
-//!   show one event, which is the one that the rules of play want of its worker. A look at its lane alone shows whether an owner needs the
-//!   list. Owners whose events need neither the list nor the pool take no turn that another owner takes. An end that was seen is kept.
-//! - [`point_laws::seats_keep_points`]: the threads of a hall are at their points of the depth-first run at each time. There are two
-//!   exceptions, and neither thread runs again: the top one of a deque whose owner found that there is not enough memory, and the top one
-//!   of a deque that nobody owns while an end is kept.
+//! The crate has definitions and laws alone. It uses the running state (`hall_machine`) and threads (`thread_frames`). Its theorem,
+//! [`run_laws::seats_make_one_run`]: however the steps are interleaved, the hall shows at each time a moment of one run, whose events are
+//! theirs. The words in use are within the bound of that run.
 //!
 //! # Why
 //!
@@ -25,6 +18,4 @@
 //! - **Points are said of `Threads`, a function from deques**, for any slots that show them. How they move is by cases on the event.
 #![tactic(auto)]
 
-pub mod point_laws;
-pub mod receipt_laws;
 pub mod run_laws;

@@ -1,5 +1,5 @@
 -- The law of the seats goes on with each event.
-use Rattle.std.proofs.Common.{◌≡◌, ◌≢◌, ℕ, zero, suc, ◌+◌, ◌<◌, ◌≤◌, ◌⊎◌, Bool, true, false, cond, min, List, [], ◌∷◌, ◌++◌, length, inl, inr, refl, sym, ap, subst, ◌∙◌, arith, append-nil, length-set, true≢false}
+use Rattle.std.proofs.Common.{◌≡◌, ◌≢◌, ℕ, ◌+◌, ◌<◌, ◌≤◌, Bool, true, false, cond, min, List, [], ◌∷◌, ◌++◌, length, inl, inr, refl, sym, ap, subst, ◌∙◌, arith, append-nil, length-set, true≢false}
 use Rattle.std.proofs.lemmas.Bool.{cases_eq, eq-eqb}
 use Rattle.std.specs.Prelude.{Option, Some, slice_get, slice_set}
 use Rattle.std.proofs.lemmas.Option.{none-some, same_Some}
@@ -10,7 +10,7 @@ use Rattle.deque_machine.specs.Books.{booked}
 use Rattle.deque_machine.proofs.Lists.{each_map, each_from, each_among}
 use Rattle.deque_machine.specs.Moments.{Moment, one_if_worker}
 use Rattle.deque_machine.specs.Machine.{Setting, Event, steals, does, suspends, gives_up, May}
-use Rattle.deque_machine.specs.Play.{Limits, IsForced}
+use Rattle.deque_machine.specs.Play.{Limits}
 use Rattle.deque_machine.specs.Play as play
 use Rattle.deque_machine.specs.Runs as runs
 use Rattle.moment_laws.specs.Passed.Periods.{Period}

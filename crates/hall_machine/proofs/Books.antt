@@ -1,21 +1,15 @@
 -- The actions of a period are those that its seat was told from its theft to the next one.
-use Rattle.std.proofs.Common.{◌≡◌, ◌≢◌, ℕ, suc, ◌+◌, ◌<◌, ◌≤◌, ◌⊎◌, Bool, true, false, nat_eq, List, [], ◌∷◌, ◌++◌, length, inl, inr, refl, sym, ap, subst, ◌∙◌, arith, append-nil, true≢false}
+use Rattle.std.proofs.Common.{◌≡◌, ◌≢◌, ℕ, suc, ◌+◌, ◌<◌, ◌≤◌, ◌⊎◌, Bool, false, nat_eq, List, [], ◌∷◌, ◌++◌, length, inl, inr, refl, sym, ap, subst, ◌∙◌, arith, append-nil}
 use Rattle.std.specs.Prelude.{Option, None, Some}
 use Rattle.std.proofs.lemmas.Option.{none-some, same_Some}
-use Rattle.std.proofs.lemmas.Bool.{cases_eq, eq-eqb, ne_eqb}
+use Rattle.std.proofs.lemmas.Bool.{cases_eq}
 use Rattle.deque_machine.specs.Lists.{Among, Each}
-use Rattle.deque_machine.proofs.Lists.{each_map, each_among, each_join, among_right, among_parts}
+use Rattle.deque_machine.proofs.Lists.{each_map, each_among, each_join, among_parts}
 use Rattle.deque_machine.specs.Moments.{Moment}
 use Rattle.deque_machine.specs.Machine.{Setting, Event, steals, does, suspends, gives_up, May}
-use Rattle.moment_laws.specs.Passed.Parts.{Parts}
 use Rattle.moment_laws.proofs.Told.{actions_are_added, others_add_none}
-use Rattle.hall_machine.specs.Values.{parts_of}
-use Rattle.hall_machine.specs.Steps.{Step, Told, stole, did, waited, gave_up, halted, Tells, Leads, told_to, name_told, names_in, last_from, last_theft, IsOfItsPeriod, InTheirPeriods}
-use Rattle.hall_machine.specs.Standing.{RanBy}
+use Rattle.hall_machine.specs.Steps.{Step, Told, stole, did, waited, gave_up, halted, Tells, Leads, told_to, last_from, last_theft, IsOfItsPeriod, InTheirPeriods}
 use Rattle.hall_machine.proofs.Going.{if_same_is, if_same_other}
-use Rattle.hall_machine.specs.Views.{event_told, events_told}
-use Rattle.hall_machine.specs.Crew.{SeatStands}
-use Rattle.hall_machine.specs.Books.{told_while, told_in, BooksAreTold, OneSeatBegan}
 
 -- ---- what is told, by itself
 
@@ -34,59 +28,10 @@ IsTheft (waited thread) = ⊥
 IsTheft (gave_up deque) = ⊥
 IsTheft (halted end) = ⊥
 
--- whether the last theft begins this period
-abbrev goes_in : Bool → ℕ → List Told → Bool
-goes_in inside n [] = inside
-goes_in inside n (stole deque period ∷ later) = goes_in (nat_eq n period) n later
-goes_in inside n (did name ∷ later) = goes_in inside n later
-goes_in inside n (waited thread ∷ later) = goes_in inside n later
-goes_in inside n (gave_up deque ∷ later) = goes_in inside n later
-goes_in inside n (halted end ∷ later) = goes_in inside n later
-
-while_append : (inside : Bool) (n : ℕ) (xs ys : List Told) → told_while inside n (xs ++ ys) ≡ told_while inside n xs ++ told_while (goes_in inside n xs) n ys
-while_append inside n [] ys = refl
-while_append inside n (stole deque period ∷ xs) ys = while_append (nat_eq n period) n xs ys
-while_append true n (did name ∷ xs) ys = ap (λ t. name ∷ t) (while_append true n xs ys)
-while_append false n (did name ∷ xs) ys = while_append false n xs ys
-while_append inside n (waited thread ∷ xs) ys = while_append inside n xs ys
-while_append inside n (gave_up deque ∷ xs) ys = while_append inside n xs ys
-while_append inside n (halted end ∷ xs) ys = while_append inside n xs ys
-
 -- 'inside' is by the last theft
 abbrev is_in : ℕ → Option ℕ → Bool
 is_in n None = false
 is_in n (Some period) = nat_eq n period
-
-goes_by_last : (last : Option ℕ) (n : ℕ) (xs : List Told) → goes_in (is_in n last) n xs ≡ is_in n (last_from last xs)
-goes_by_last last n [] = refl
-goes_by_last last n (stole deque period ∷ xs) = goes_by_last (Some period) n xs
-goes_by_last last n (did name ∷ xs) = goes_by_last last n xs
-goes_by_last last n (waited thread ∷ xs) = goes_by_last last n xs
-goes_by_last last n (gave_up deque ∷ xs) = goes_by_last last n xs
-goes_by_last last n (halted end ∷ xs) = goes_by_last last n xs
-
-goes_if : (n : ℕ) (xs : List Told) (period : ℕ) → last_theft xs ≡ Some period → goes_in false n xs ≡ nat_eq n period
-goes_if n xs period is = goes_by_last None n xs ∙ ap (is_in n) is
-
--- what is told of no theft
-while_one : (inside : Bool) (n : ℕ) (told : Told) → (IsTheft told → ⊥) → (inside ≡ true → told_while inside n (told ∷ []) ≡ name_told told) × (inside ≡ false → told_while inside n (told ∷ []) ≡ [])
-while_one inside n (stole deque period) none = absurd (none tt)
-while_one true n (did name) none = (λ is. refl, λ is. absurd (true≢false is))
-while_one false n (did name) none = (λ is. absurd (true≢false (sym is)), λ is. refl)
-while_one inside n (waited thread) none = (λ is. refl, λ is. refl)
-while_one inside n (gave_up deque) none = (λ is. refl, λ is. refl)
-while_one inside n (halted end) none = (λ is. refl, λ is. refl)
-
--- where all periods that are begun have lower numbers nothing is told of this one
-none_told : (n : ℕ) (xs : List Told) (b : ℕ) → b < n → Each (λ t. begun_by t ≤ b) xs → told_while false n xs ≡ []
-none_told n [] b low all = refl
-none_told n (stole deque period ∷ xs) b low all =
-    let here = all.0 in
-    ap (λ t. told_while t n xs) (ne_eqb n period (λ same. absurd (omega (arith, low, here, same)))) ∙ none_told n xs b low all.1
-none_told n (did name ∷ xs) b low all = none_told n xs b low all.1
-none_told n (waited thread ∷ xs) b low all = none_told n xs b low all.1
-none_told n (gave_up deque ∷ xs) b low all = none_told n xs b low all.1
-none_told n (halted end ∷ xs) b low all = none_told n xs b low all.1
 
 -- the last theft is one of those that are told
 last_among : (last : Option ℕ) (xs : List Told) (n : ℕ) → last_from last xs ≡ Some n → (last ≡ Some n) ⊎ ((deque : ℕ) × Among (stole deque n) xs)
@@ -102,23 +47,6 @@ last_among last (halted end ∷ xs) n is = elim (last_among last xs n is) [ inl 
 
 last_there : (xs : List Told) (n : ℕ) → last_theft xs ≡ Some n → (deque : ℕ) × Among (stole deque n) xs
 last_there xs n is = elim (last_among None xs n is) [ inl none ↦ absurd (none-some n none) | inr there ↦ there ]
-
--- ends that were kept are no part of it
-while_events : (inside : Bool) (n : ℕ) (mine : List Told) → told_while inside n mine ≡ told_while inside n (events_told mine)
-while_events inside n [] = refl
-while_events inside n (stole deque period ∷ mine) = while_events (nat_eq n period) n mine
-while_events true n (did name ∷ mine) = ap (λ t. name ∷ t) (while_events true n mine)
-while_events false n (did name ∷ mine) = while_events false n mine
-while_events inside n (waited thread ∷ mine) = while_events inside n mine
-while_events inside n (gave_up deque ∷ mine) = while_events inside n mine
-while_events inside n (halted end ∷ mine) = while_events inside n mine
-
-pub theft_stays : (deque n : ℕ) (mine : List Told) → Among (stole deque n) mine → Among (stole deque n) (events_told mine)
-theft_stays deque n [] there = there
-theft_stays deque n (told ∷ mine) there = elim there [
-  | inl same ↦ subst (λ t. Among (stole deque n) (event_told t ++ events_told mine)) same (inl refl)
-  | inr later ↦ among_right (stole deque n) (event_told told) (events_told mine) (theft_stays deque n mine later)
-]
 
 -- ---- one step more
 
@@ -261,95 +189,3 @@ module _ (s : Setting) where
           | inr now ↦ absurd (continues.no_theft (subst IsTheft now.1 tt))
         ]
       ]
-
-  -- nothing was done in a period that was not begun
-  none_named : (n b : ℕ) (steps : List Step) → b < n → Each (λ step. step.period ≤ b) steps → names_in n steps ≡ []
-  none_named n b [] low all = refl
-  none_named n b (step ∷ earlier) low all =
-      let here = all.0 in
-      ap (λ t. names_in n earlier ++ t) (if_same_other n step.period (name_told step.told) (λ same. absurd (omega (arith, low, here, same))))
-      ∙ append-nil (names_in n earlier) ∙ none_named n b earlier low all.1
-
-  names_others : (n : ℕ) (step : Step) (earlier : List Step) → n ≢ step.period → names_in n (step ∷ earlier) ≡ names_in n earlier
-  names_others n step earlier other =
-      ap (λ t. names_in n earlier ++ t) (if_same_other n step.period (name_told step.told) other) ∙ append-nil (names_in n earlier)
-
-  names_own : (n : ℕ) (step : Step) (earlier : List Step) → n ≡ step.period → names_in n (step ∷ earlier) ≡ names_in n earlier ++ name_told step.told
-  names_own n step earlier same = ap (λ t. names_in n earlier ++ t) (if_same_is n step.period (name_told step.told) same)
-
-  -- a theft names no action
-  theft_names : (n : ℕ) (step : Step) (earlier : List Step) (deque period : ℕ) → step.told ≡ stole deque period → names_in n (step ∷ earlier) ≡ names_in n earlier
-  theft_names n step earlier deque period is = elim (cases_eq n step.period) [
-    | inl same ↦ names_own n step earlier same ∙ ap (λ t. names_in n earlier ++ name_told t) is ∙ append-nil (names_in n earlier)
-    | inr other ↦ names_others n step earlier other
-  ]
-
-  theft_tells : (n seat : ℕ) (step : Step) (earlier : List Step) (deque period : ℕ) → step.told ≡ stole deque period → told_in n (told_to seat (step ∷ earlier)) ≡ told_in n (told_to seat earlier)
-  theft_tells n seat step earlier deque period is = elim (cases_eq seat step.seat) [
-    | inl same ↦ ap (told_in n) (told_own seat step earlier same) ∙ while_append false n (told_to seat earlier) (step.told ∷ [])
-        ∙ ap (λ t. told_in n (told_to seat earlier) ++ told_while (goes_in false n (told_to seat earlier)) n (t ∷ [])) is ∙ append-nil (told_in n (told_to seat earlier))
-    | inr other ↦ ap (told_in n) (told_others seat step earlier other)
-  ]
-
-  -- what is told of another period is nothing to this one
-  none_of_another : (n seat : ℕ) (step : Step) (earlier : List Step) → seat ≡ step.seat → (IsTheft step.told → ⊥) → last_theft (told_to step.seat earlier) ≡ Some step.period
-      → n ≢ step.period → told_in n (told_to seat earlier) ≡ told_in n (told_to seat (step ∷ earlier))
-  none_of_another n seat step earlier its no_theft of_last apart =
-      let outside : goes_in false n (told_to seat earlier) ≡ false =
-      goes_if n (told_to seat earlier) step.period (ap (λ k. last_theft (told_to k earlier)) its ∙ of_last) ∙ ne_eqb n step.period apart in
-      sym (append-nil (told_in n (told_to seat earlier)))
-      ∙ ap (λ t. told_in n (told_to seat earlier) ++ t) (sym ((while_one (goes_in false n (told_to seat earlier)) n step.told no_theft).1 outside))
-      ∙ sym (while_append false n (told_to seat earlier) (step.told ∷ [])) ∙ ap (told_in n) (sym (told_own seat step earlier its))
-
-  -- what was done in a period is what its seat was told in it
-  pub names_are_told : (steps : List Step) (m : Moment) → Leads s steps m → InTheirPeriods steps → (seat deque n : ℕ) → Among (stole deque n) (told_to seat steps)
-      → names_in n steps ≡ told_in n (told_to seat steps)
-  names_are_told [] m leads periods seat deque n there = absurd there
-  names_are_told (step ∷ earlier) m leads periods seat deque n there =
-      let before : Moment = leads.0 in
-      let rest = numbered earlier before leads.1 periods.1 in
-      elim (by_event s before m step.worker step.event step.period step.told (told_to step.seat earlier) leads.2 leads.3 periods.0) [
-        | inl begins ↦
-            let next = begins.next_one in
-            let so_far : names_in n earlier ≡ told_in n (told_to seat earlier) = elim (among_told (stole deque n) seat step earlier there) [
-              | inl was ↦ names_are_told earlier before leads.1 periods.1 seat deque n was
-              | inr now ↦
-                  let is = ap begun_by (now.1 ∙ begins.told_is) in
-                  let low : length before.books < n = omega (arith, is, next) in
-                  none_named n (length before.books) earlier low rest.of_steps ∙ sym (none_told n (told_to seat earlier) (length before.books) low (rest.of_seats seat))
-            ] in
-            theft_names n step earlier begins.deque step.period begins.told_is ∙ so_far ∙ sym (theft_tells n seat step earlier begins.deque step.period begins.told_is)
-        | inr continues ↦ elim (among_told (stole deque n) seat step earlier there) [
-          | inr now ↦ absurd (continues.no_theft (subst IsTheft now.1 tt))
-          | inl was ↦
-              let so_far = names_are_told earlier before leads.1 periods.1 seat deque n was in
-              elim (cases_eq n step.period) [
-                | inl same ↦
-                    let last = last_there (told_to step.seat earlier) step.period continues.of_last in
-                    let its : seat ≡ step.seat = one_seat earlier before leads.1 periods.1 seat step.seat deque last.0 n was (subst (λ k. Among (stole last.0 k) (told_to step.seat earlier)) (sym same) last.1) in
-                    let inside : goes_in false n (told_to seat earlier) ≡ true =
-                    goes_if n (told_to seat earlier) step.period (ap (λ k. last_theft (told_to k earlier)) its ∙ continues.of_last) ∙ eq-eqb n step.period same in
-                    names_own n step earlier same ∙ ap (λ t. t ++ name_told step.told) so_far
-                    ∙ ap (λ t. told_in n (told_to seat earlier) ++ t) (sym ((while_one (goes_in false n (told_to seat earlier)) n step.told continues.no_theft).0 inside))
-                    ∙ sym (while_append false n (told_to seat earlier) (step.told ∷ [])) ∙ ap (told_in n) (sym (told_own seat step earlier its))
-                | inr apart ↦
-                    let tells_none : told_in n (told_to seat earlier) ≡ told_in n (told_to seat (step ∷ earlier)) = elim (cases_eq seat step.seat) [
-                      | inr other ↦ ap (told_in n) (sym (told_others seat step earlier other))
-                      | inl its ↦ none_of_another n seat step earlier its continues.no_theft continues.of_last apart
-                    ] in
-                    names_others n step earlier apart ∙ so_far ∙ tells_none
-              ]
-        ]
-      ]
-
-pub books_are_told : (s : Setting) → BooksAreTold s
-books_are_told s limits h steps m leads count views seat v deque n p state is placed began there number =
-    let stands : SeatStands s limits h steps m leads seat v = state.crew.seats seat v is placed in
-    let ran : RanBy steps p = each_among (RanBy steps) p (Parts.periods (parts_of h)) state.stands.ran there in
-    ran ∙ ap (λ k. names_in k steps) number
-    ∙ names_are_told s steps m leads state.crew.in_periods seat deque n (subst (Among (stole deque n)) stands.told (theft_stays deque n v.mine began))
-    ∙ ap (told_in n) (sym stands.told) ∙ sym (while_events false n v.mine)
-
-pub one_seat_began : (s : Setting) → OneSeatBegan s
-one_seat_began s limits h steps m leads count views a b deque other n state first second =
-    one_seat s steps m leads state.crew.in_periods a b deque other n first second

@@ -1,7 +1,6 @@
 -- What is known of a hall that stands: its run, its deques, and its books where nobody owns a deque.
 use Rattle.std.proofs.Common.{◌≡◌, ◌≢◌, ℕ, List, [], ◌∷◌, ◌++◌, map, refl, sym, ap, subst, ◌∙◌, append-nil}
 use Rattle.std.specs.Prelude.{None, Some}
-use Rattle.std.proofs.lemmas.List.{map-set}
 use Rattle.deque_list.specs.declared.place.Place.{Place}
 use Rattle.deque_machine.specs.Lists.{Each}
 use Rattle.deque_machine.proofs.Lists.{each_at}
@@ -17,10 +16,10 @@ use Rattle.moment_laws.specs.Passed.Parts as parts
 use Rattle.moment_laws.specs.Passed.Parts.{Thread}
 use Rattle.moment_laws.specs.Passed.Shown.{deque_shown}
 use Rattle.moment_laws.specs.Moves.{AreMovesOf}
-use Rattle.hall_machine.specs.Values.{LaneShown, of_lane, lane_in, hall_of, lane_at, deque_at, deque_of, the_thread, run_by, running}
+use Rattle.hall_machine.specs.Values.{LaneShown, lane_at, deque_at, deque_of, the_thread, run_by, running}
 use Rattle.hall_machine.specs.Steps.{run_of}
 use Rattle.hall_machine.specs.Standing.{HasLane, NoneOfTheRunIsFree, DequesAreShown, ClosedIsARun}
-use Rattle.hall_machine.specs.Writing.{place_of, lane_with, OwnersAreAtWork, SlotsAreParts}
+use Rattle.hall_machine.specs.Writing.{place_of, lane_with, OwnersAreAtWork}
 use Rattle.hall_machine.proofs.Going.{steps_are_a_run}
 
 -- a run without a free give up goes on by an event that is none
@@ -92,12 +91,3 @@ owners_are_at_work s h steps m at left right id worker are =
       record { left = left; id = id; right = right; top = cut.0; under = cut.1; period = run.0; places_are = are; lane_is = cut.2 },
       refl,
     )
-
--- ---- what is written into a slot
-
-pub slots_are_parts : SlotsAreParts
-slots_are_parts first second others = (
-  λ list. refl,
-  λ pool. refl,
-  λ id lane. ap (λ lanes. record (hall_of (first ∷ second ∷ others)) { lanes = lanes }) (map-set lane_in others id.0 (of_lane lane)),
-)

@@ -16,7 +16,7 @@ use Rattle.moment_laws.specs.Passed.Parts.{Thread, Parts, parts_with_root}
 use Rattle.hall_machine.specs.Values.{ListShown, PoolShown, Hall, no_lane, of_list, of_pool, of_lane, hall_of, parts_of}
 use Rattle.hall_machine.specs.Steps.{Step, stole, did, run_of, told_to, names_in, last_theft}
 use Rattle.hall_machine.specs.Standing.{HallStands, Went}
-use Rattle.hall_machine.specs.Writing.{place_of, lane_with, IsAtWork, PoolTakes, ActsInLane, new_period}
+use Rattle.hall_machine.specs.Writing.{place_of, lane_with, IsAtWork, new_period}
 use Rattle.hall_machine.specs.Writing as writing
 use Rattle.hall_machine.specs.Rows.{IsFirst}
 use Rattle.hall_machine.proofs.Opening.{first_stands}

@@ -20,7 +20,7 @@ use Rattle.moment_laws.specs.Passed.ListChangesEvents.{DidEnd, DidJoin}
 use Rattle.moment_laws.specs.Orders.{AreSame}
 use Rattle.moment_laws.specs.Standing.{handed_on}
 use Rattle.moment_laws.proofs.Standing.{handings_stand}
-use Rattle.hall_machine.specs.Values.{ListShown, PoolShown, LaneShown, Hall, parts_of, showing_of, open_for}
+use Rattle.hall_machine.specs.Values.{PoolShown, Hall, parts_of, showing_of, open_for}
 use Rattle.hall_machine.specs.Steps.{Step, did, run_of}
 use Rattle.hall_machine.specs.Standing.{HallStands, RanBy, Went}
 use Rattle.hall_machine.specs.Writing.{IsAtWork, lane_with, step_of, PoolTakes, joins_handed, IsHanded}

@@ -22,7 +22,7 @@ use Rattle.moment_laws.proofs.Passed.Placing as placing
 use Rattle.moment_laws.specs.Orders.{AreSame}
 use Rattle.moment_laws.specs.Standing.{StandsAfter, Counts, Settles, as_they_are}
 use Rattle.moment_laws.proofs.Standing.{actions_stand}
-use Rattle.hall_machine.specs.Values.{ListShown, PoolShown, LaneShown, Hall, parts_of, showing_of, open_for}
+use Rattle.hall_machine.specs.Values.{PoolShown, Hall, parts_of, showing_of, open_for}
 use Rattle.hall_machine.specs.Steps.{Step, Tells, did, run_of}
 use Rattle.hall_machine.specs.Standing.{HallStands, HasLane, Went}
 use Rattle.hall_machine.specs.Writing.{IsAtWork, written, lane_with, step_of, PoolTakes, ActsInLane, acts_alone, joins_handed}

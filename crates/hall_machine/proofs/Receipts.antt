@@ -1,5 +1,5 @@
 -- The looks of a thief show the choice that the rules of play make.
-use Rattle.std.proofs.Common.{◌≡◌, ℕ, ◌+◌, ◌%◌, ◌<◌, min, List, length, inl, inr, sym, ap, subst, ◌∙◌, arith}
+use Rattle.std.proofs.Common.{◌≡◌, ℕ, ◌+◌, ◌%◌, min, List, length, inl, inr, sym, ap, subst, ◌∙◌, arith}
 use Rattle.std.proofs.lemmas.List.{length-map}
 use Rattle.std.specs.Prelude.{Some, slice_get}
 use Rattle.deque_list.specs.declared.place.Place.{Place}
@@ -9,7 +9,7 @@ use Rattle.deque_machine.specs.Machine.{Setting}
 use Rattle.deque_machine.specs.Play.{IsFirst}
 use Rattle.moment_laws.specs.Passed.Choices.{IsReadyAt, reach_of}
 use Rattle.hall_machine.specs.Values.{Hall, deque_of, deques_of}
-use Rattle.hall_machine.specs.Receipts.{Look, SawTheLanes, ShowsReady, ShowsUnready, VictimsAreFirst, NothingIsReady, SeatsAreTold}
+use Rattle.hall_machine.specs.Receipts.{Look, SawTheLanes, ShowsReady, ShowsUnready, VictimsAreFirst}
 use Rattle.hall_machine.proofs.Stops.{at_mapped}
 
 module _ (h : Hall) (looks : List Look) (saw : SawTheLanes looks h) where
@@ -45,10 +45,3 @@ victims_are_first s h looks word place saw shows = subst (λ n. IsFirst n word (
   passes = shows_ready h looks saw place shows.ready.0 shows.ready.1 shows.ready.2;
   none_before = λ e low. shows_unready h looks saw ((word + e) % min s.workers (length h.list.places)) (λ p is. shows.earlier e p low is);
 })
-
-pub nothing_is_ready : (s : Setting) → NothingIsReady s
-nothing_is_ready s h looks saw shows some =
-    shows_unready h looks saw some.0 (λ p is. shows some.0 p (subst (λ n. some.0 < n) (same_reach h looks saw s.workers) some.1) is) some.2
-
-pub seats_are_told : (s : Setting) → SeatsAreTold s
-seats_are_told s limits h steps m leads count views seat v state is placed = (state.crew.seats seat v is placed).told

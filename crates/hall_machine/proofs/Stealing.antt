@@ -13,7 +13,7 @@ use Rattle.moment_laws.proofs.Passed.Lists.{adds, added_differ}
 use Rattle.moment_laws.specs.Passed.Parts.{Deque, Parts}
 use Rattle.moment_laws.specs.Passed.MomentShownEvents.{Begins}
 use Rattle.moment_laws.specs.Standing.{StandsAfter, Keeps}
-use Rattle.hall_machine.specs.Values.{ListShown, LaneShown, Hall, lane_at, deque_at, run_by, running_at, running, parts_of, showing_of}
+use Rattle.hall_machine.specs.Values.{LaneShown, Hall, deque_at, parts_of, showing_of}
 use Rattle.hall_machine.specs.Steps.{Step, stole, run_of}
 use Rattle.hall_machine.specs.Standing.{HallStands, HasLane, RanBy, Went}
 use Rattle.hall_machine.specs.Writing.{new_period}

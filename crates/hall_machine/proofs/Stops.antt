@@ -21,7 +21,7 @@ use Rattle.deque_machine.proofs.Movers.{mover_wants}
 use Rattle.deque_machine.proofs.Playing.{wanted_may_come}
 use Rattle.deque_machine.proofs.Reached.{arena_refuses}
 use Rattle.deque_list.specs.declared.place.Place.{Place}
-use Rattle.moment_laws.specs.Passed.Parts.{Thread, Parts}
+use Rattle.moment_laws.specs.Passed.Parts.{Thread}
 use Rattle.moment_laws.specs.Passed.Parts as parts
 use Rattle.moment_laws.specs.Passed.MomentShownEvents.{Works, IsNextOf}
 use Rattle.moment_laws.proofs.Passed.Placing.{own, next_at_top}
@@ -62,11 +62,6 @@ module _ (s : Setting) (limits : Limits) (h : Hall) (steps : List Step) (m : Mom
   -- a seat that owns a deque has not left
   has_stayed : (n : ℕ) (u : View) → SeatStands s limits h steps m leads n u → (id : DequeId) → u.deque ≡ Some id → 0 < u.places → one_if_in u ≡ 1
   has_stayed n u stands id owns placed = ap (in_hall u.places) (false_if u.left (λ left. none-some id (sym (stands.gone left) ∙ owns))) ∙ is_in u.places placed
-
-  holds_count : (places : ℕ) (n : ℕ) (u : View) → u.places ≡ places → slice_get views n ≡ Some u → u.counting ≡ true → 0 < u.places
-  holds_count zero n u none is counting =
-      absurd (true≢false (sym counting ∙ ap (λ x. View.counting x) (each_get (λ x. x.places ≡ 0 → x ≡ joined) views n u state.crew.unplaced is none)))
-  holds_count (suc places) n u some is counting = omega (arith, some)
 
   claiming : (id : DequeId) → v.deque ≡ Some id → Claiming views_now h.list.places
   claiming id owns = record {

@@ -22,7 +22,6 @@ use Rattle.hall_machine.specs.Changes.{after_event}
 use Rattle.hall_machine.specs.Seats.{with_crew, leaving, with_places_of}
 use Rattle.hall_machine.specs.State.{RunningState, IsIn, GoesOn}
 use Rattle.hall_machine.specs.Events.{still_owning, idle_after}
-use Rattle.hall_machine.specs.Books.{told_in}
 use Rattle.hall_machine.specs.Closing.{GivesOneRun}
 use Rattle.hall_machine.proofs.Owners.{leaving_ends_go_on, kept_joins_go_on}
 use Rattle.hall_machine.proofs.Thieves.{taking_over_goes_on}
@@ -267,12 +266,6 @@ all_are_done place inside = it_gives_one_run.all_done refl place inside
 -- seat 0 was told of two periods
 pub told_in_all : done_view.mine ≡ stole 0 1 ∷ did first_name ∷ did child_name ∷ stole 1 3 ∷ did join_name ∷ did root_name ∷ []
 told_in_all = refl
-
-pub told_in_the_first : told_in 1 done_view.mine ≡ first_name ∷ child_name ∷ []
-told_in_the_first = refl
-
-pub told_in_the_third : told_in 3 done_view.mine ≡ join_name ∷ root_name ∷ []
-told_in_the_third = refl
 
 -- it has yielded, since the seat that was joined into it had
 pub it_has_yielded : done_view.yielded ≡ true

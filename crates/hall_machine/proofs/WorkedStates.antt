@@ -1,15 +1,12 @@
 -- A worked run of a hall with two workers and its seats: it begins with one seat, a second worker enters and gets a seat, the first takes the
 -- root over and forks, and the second steals the root from it.
-use Rattle.std.proofs.Common.{◌≡◌, false, true, [], ◌∷◌, inl, refl, arith}
+use Rattle.std.proofs.Common.{false, true, [], ◌∷◌, refl, arith}
 use Rattle.std.specs.Prelude.{None, Some}
 use Rattle.depth_first_list.specs.Passed.Births.{root}
 use Rattle.deque_list.specs.Ids.{deque_id}
-use Rattle.deque_machine.specs.Lists.{Among}
 use Rattle.deque_machine.specs.Moments.{opening}
 use Rattle.deque_machine.specs.Play.{Limits}
-use Rattle.moment_laws.specs.Passed.Periods.{Period}
-use Rattle.moment_laws.specs.Passed.Parts.{Parts}
-use Rattle.hall_machine.specs.Values.{Hall, parts_of}
+use Rattle.hall_machine.specs.Values.{Hall}
 use Rattle.hall_machine.specs.Steps.{stole, did}
 use Rattle.hall_machine.specs.Writing.{place_of}
 use Rattle.hall_machine.specs.Writing as writing
@@ -24,10 +21,8 @@ use Rattle.hall_machine.proofs.First.{first_crew}
 use Rattle.hall_machine.proofs.Entering.{entering_keeps_crew, splitting_keeps_crew}
 use Rattle.hall_machine.proofs.Counting.{counts_keep_crew}
 use Rattle.hall_machine.specs.State.{RunningState, GoesOn}
-use Rattle.hall_machine.specs.Books.{told_in}
 use Rattle.hall_machine.proofs.Owners.{lane_actions_go_on}
 use Rattle.hall_machine.proofs.Thieves.{thefts_beside_go_on, taking_over_goes_on}
-use Rattle.hall_machine.proofs.Books.{books_are_told}
 
 abbrev pub some_limits : Limits
 some_limits = record { capacity = 64; actions = 10; deques = 4 }
@@ -118,16 +113,3 @@ pub it_steals : GoesOn one_fork some_limits stolen (fork ∷ theft ∷ []) it_fo
 it_steals = thefts_beside_go_on one_fork (omega arith) one_fork_is_depth_first some_limits forked (fork ∷ theft ∷ []) it_forks.0
     (it_takes_over.0, (opening, refl, it_takes_over.1, it_takes_over.2), it_forks.1, it_forks.2) 1 (forking ∷ fresh 1 1 ∷ []) 1 (fresh 1 1) [] [] (place_of (deque_id 0) (Some 0)) (deque_id 1)
     child_thread forked_root [] _ it_forks.3 (record { noted = refl; placed = omega arith; stays = refl }) refl (omega arith) refl refl (λ is. absurd (omega (arith, is)), tt) (omega arith)
-
--- ---- what the seats were told is in the books
-
-pub told_of_the_first : told_in 1 forking.mine ≡ first_name ∷ []
-told_of_the_first = refl
-
-pub nothing_told_of_the_second : told_in 2 stealing.mine ≡ []
-nothing_told_of_the_second = refl
-
-pub the_first_ran : (p : Period) → Among p (Parts.periods (parts_of stolen)) → p.number ≡ 1 → p.ran ≡ first_name ∷ []
-the_first_ran p there number = books_are_told one_fork some_limits stolen (second_theft ∷ fork ∷ theft ∷ []) it_steals.0
-    (it_forks.0, (it_takes_over.0, (opening, refl, it_takes_over.1, it_takes_over.2), it_forks.1, it_forks.2), it_steals.1, it_steals.2) 1 (forking ∷ stealing ∷ []) 0 forking 0 1 p it_steals.3 refl
-    (omega arith) (inl refl) there number

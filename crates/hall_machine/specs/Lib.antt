@@ -12,7 +12,6 @@ pub mod State
 pub mod Events
 pub mod Moments
 pub mod Stops
-pub mod Books
 pub mod Closing
 pub mod Points
 pub mod Receipts

@@ -3,15 +3,11 @@ use Rattle.std.specs.Prelude.{◌≡◌, ◌≢◌, ◌⊎◌, ℕ, ◌+◌, ◌
 use Rattle.deque_list.specs.declared.deque_id.DequeId.{DequeId}
 use Rattle.deque_list.specs.declared.place.Place.{Place}
 use Rattle.deque_machine.specs.Lists.{Among}
-use Rattle.deque_machine.specs.Moments.{Moment}
 use Rattle.deque_machine.specs.Machine.{Setting}
-use Rattle.deque_machine.specs.Play.{Limits, IsFirst}
-use Rattle.moment_laws.specs.Passed.Choices.{IsReadyAt, reach_of, SomeReady}
+use Rattle.deque_machine.specs.Play.{IsFirst}
+use Rattle.moment_laws.specs.Passed.Choices.{IsReadyAt, reach_of}
 use Rattle.hall_machine.specs.Values.{ListShown, LaneShown, Value, of_list, of_lane, End, Hall, lane_at, deques_of}
-use Rattle.hall_machine.specs.Steps.{Step, Leads, told_to}
 use Rattle.hall_machine.specs.Writing.{lane_slot}
-use Rattle.hall_machine.specs.Views.{View, events_told}
-use Rattle.hall_machine.specs.State.{RunningState}
 
 -- a look of a seat: a slot that it took, with what this showed; a slot that was held, with the word found; or a count, with the number found
 pub data Look : Type 0 where
@@ -38,11 +34,6 @@ pub record ShowsVictim (workers word : ℕ) (looks : List Look) (places : List P
   pub ready : (p : Place) × (slice_get places place ≡ Some p) × ShowsReady looks p
   pub earlier : (e : ℕ) (p : Place) → e < turns → slice_get places ((word + e) % min workers (length places)) ≡ Some p → ShowsUnready looks p
 
--- nothing to steal: no deque in reach is ready
-abbrev pub ShowsNothing : (workers : ℕ) → List Look → List Place → Type 0
-ShowsNothing workers looks places =
-    (place : ℕ) (p : Place) → place < min workers (length places) → slice_get places place ≡ Some p → ShowsUnready looks p
-
 -- the end that the list showed, and a slot that was held last
 abbrev pub ShowsEnd : List Look → End → Type 0
 ShowsEnd looks end = (list : ListShown) × Among (took 0 (of_list list)) looks × (list.kept ≡ Some end)
@@ -58,14 +49,3 @@ SawTheLanes looks h = (id : DequeId) (lane : LaneShown) → SawLane looks id lan
 abbrev pub VictimsAreFirst : Setting → Type 0
 VictimsAreFirst s = (h : Hall) (looks : List Look) (word place : ℕ) → SawTheLanes looks h → ShowsVictim s.workers word looks h.list.places place
     → IsFirst (reach_of s.workers (deques_of h)) word (IsReadyAt (deques_of h)) place
-
--- and where nothing is shown nothing is ready
-abbrev pub NothingIsReady : Setting → Type 0
-NothingIsReady s = (h : Hall) (looks : List Look) → SawTheLanes looks h → ShowsNothing s.workers looks h.list.places
-    → ¬ SomeReady s.workers (deques_of h)
-
--- what a seat was told are its own events of the run, in their order
-abbrev pub SeatsAreTold : Setting → Type 0
-SeatsAreTold s = (limits : Limits) (h : Hall) (steps : List Step) (m : Moment) (leads : Leads s steps m) (count : ℕ) (views : List View)
-    (seat : ℕ) (v : View) → RunningState s limits h steps m leads count views → slice_get views seat ≡ Some v → 0 < v.places
-    → events_told v.mine ≡ told_to seat steps

@@ -1,5 +1,5 @@
 -- A worker at work, and what its event writes into the slots.
-use Rattle.std.specs.Prelude.{◌≡◌, ℕ, suc, ◌+◌, true, Bool, map, Option, None, Some, List, [], ◌∷◌, ◌++◌, pos, ◌+ℤ◌, slice_set}
+use Rattle.std.specs.Prelude.{◌≡◌, ℕ, suc, ◌+◌, true, Bool, Option, None, Some, List, [], ◌∷◌, ◌++◌, pos, ◌+ℤ◌, slice_set}
 use Rattle.depth_first_list.specs.Passed.ActionId.{ActionId}
 use Rattle.depth_first_list.specs.Passed.Birth.{Birth}
 use Rattle.depth_first_list.specs.Actions.{Action}
@@ -14,7 +14,7 @@ use Rattle.moment_laws.specs.Passed.Periods.{Period}
 use Rattle.moment_laws.specs.Passed.Parts.{Child, Thread, Result}
 use Rattle.moment_laws.specs.Passed.ListChangesEvents.{DidAlone, DidJoin, DidFork}
 use Rattle.moment_laws.specs.Moves.{noted_if}
-use Rattle.hall_machine.specs.Values.{ListShown, PoolShown, LaneShown, Value, of_list, of_pool, of_lane, lane_in, Hall, hall_of, lane_at, open_for}
+use Rattle.hall_machine.specs.Values.{ListShown, PoolShown, LaneShown, Hall, lane_at, open_for}
 use Rattle.hall_machine.specs.Steps.{Step, Told}
 use Rattle.hall_machine.specs.Standing.{HallStands}
 
@@ -56,15 +56,6 @@ OwnersAreAtWork s = (h : Hall) (steps : List Step) (m : Moment) → HallStands s
 -- The slot of a lane comes after those of the list and of the pool. What is written into a slot is written into the part that it holds.
 abbrev pub lane_slot : DequeId → ℕ
 lane_slot id = suc (suc id.0)
-
-abbrev pub SlotsAreParts : Type 0
-SlotsAreParts = (first second : Value) (others : List Value) →
-    ((list : ListShown) →
-    hall_of (slice_set (first ∷ second ∷ others) 0 (of_list list)) ≡ record (hall_of (first ∷ second ∷ others)) { list = list }) ×
-    ((pool : PoolShown) →
-    hall_of (slice_set (first ∷ second ∷ others) 1 (of_pool pool)) ≡ record (hall_of (first ∷ second ∷ others)) { pool = pool }) ×
-    ((id : DequeId) (lane : LaneShown) → hall_of (slice_set (first ∷ second ∷ others) (lane_slot id) (of_lane lane))
-    ≡ record (hall_of (first ∷ second ∷ others)) { lanes = slice_set (map lane_in others) id.0 lane })
 
 -- a step of a worker at work, in the period that runs
 abbrev pub step_of : {h : Hall} {worker : ℕ} → IsAtWork h worker → (seat : ℕ) → Event → Told → Step

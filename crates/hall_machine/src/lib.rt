@@ -13,8 +13,8 @@
 //!
 //! The crate has definitions and laws alone, over plain values: no table, no thread, no handle. It uses where a scheduler stands
 //! (`moment_laws`). Its theorem: a hall begins in a running state, and each event of a seat leads from a running state to a running state by
-//! one event of the machine for the worker of its seat; a stop that a seat finds has its cause; the book of a period is what its seat was
-//! told; and a hall that is closed gives the books and the moves of one run.
+//! one event of the machine for the worker of its seat; a stop that a seat finds has its cause; and a hall that is closed gives the books and
+//! the moves of one run.
 //!
 //! # Why
 //!

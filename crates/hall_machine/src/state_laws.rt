@@ -1,35 +1,13 @@
 ghost use Rattle.deque_machine.specs.Machine.{Setting};
 ghost use Rattle.deque_machine.specs.Laws.{InEachSetting};
-ghost use Rattle.hall_machine.specs.Moments.{AllAreWithin, DequesHoldThreads, EndedHasNoDeques, ActionsAreDone};
 ghost use Rattle.hall_machine.specs.Events.{LaneActionsGoOn, OwnJoinsGoOn, DummiesGoOn, EndsAboveGoOn, WakingEndsGoOn, LeavingEndsGoOn, RootEndsGoOn, KeptJoinsGoOn, GivingUpGoesOn, ForcedGiveUpsGoOn, SuspendingGoesOn, TheftsBesideGoOn, TakingOverGoesOn};
 ghost use Rattle.hall_machine.specs.Quiet.{QuietPutsGoOn, CountsGoOn, EnteringGoesOn, SplittingGoesOn, KeptStopsGoOn, HaltingGoesOn, LeavingGoesOn, LeavingOwnersGoOn, JoiningGoesOn};
 ghost use Rattle.hall_machine.specs.Numbers.{WorkersMayEnter};
 ghost use Rattle.hall_machine.specs.Stops.{SpentCountsGoOn, FullArenasGoOn, FullArenasAreAhead, FullListsGoOn};
-ghost use Rattle.hall_machine.specs.Books.{BooksAreTold, OneSeatBegan};
-ghost use Rattle.hall_machine.specs.Owned.{SeatsHaveTheirWorkers, SeatsOwnTheirDeques, SeatsWroteTheirBooks};
-ghost use Rattle.hall_machine.specs.Receipts.{VictimsAreFirst, NothingIsReady, SeatsAreTold};
+ghost use Rattle.hall_machine.specs.Owned.{SeatsHaveTheirWorkers};
+ghost use Rattle.hall_machine.specs.Receipts.{VictimsAreFirst};
 ghost use Rattle.hall_machine.specs.Points.{ExcusesStay};
 ghost use Rattle.hall_machine.specs.Closing.{FirstHallStands, StatesMeetTheLaw, HallsAreBounded, SeatsWithAllAreAlone, ClosedGiveOneRun};
-
-/// What is done and one action more for each thread of a deque are actions of the list.
-pub fn all_are_within()
-    ensures { InEachSetting AllAreWithin }
-{}
-
-/// Each deque holds a thread.
-pub fn deques_hold_threads()
-    ensures { (s : Setting) → DequesHoldThreads s }
-{}
-
-/// After the End of the root no deque is left.
-pub fn ended_has_no_deques()
-    ensures { InEachSetting EndedHasNoDeques }
-{}
-
-/// An action is done at the moment after it.
-pub fn actions_are_done()
-    ensures { (s : Setting) → ActionsAreDone s }
-{}
 
 /// An action that the top thread of a seat does in its own lane leads from a running state to a running state.
 pub fn lane_actions_go_on()
@@ -166,44 +144,14 @@ pub fn full_lists_go_on()
     ensures { InEachSetting FullListsGoOn }
 {}
 
-/// The book of a period is what its seat was told in it.
-pub fn books_are_told()
-    ensures { (s : Setting) → BooksAreTold s }
-{}
-
-/// No period was begun by two seats.
-pub fn one_seat_began()
-    ensures { (s : Setting) → OneSeatBegan s }
-{}
-
 /// Seats that are in have different workers.
 pub fn seats_have_their_workers()
     ensures { (s : Setting) → SeatsHaveTheirWorkers s }
 {}
 
-/// The deque of a seat is the one that the moment gives to its worker.
-pub fn seats_own_their_deques()
-    ensures { (s : Setting) → SeatsOwnTheirDeques s }
-{}
-
-/// What a seat was told in a period that it began is the book of this period at the moment.
-pub fn seats_wrote_their_books()
-    ensures { (s : Setting) → SeatsWroteTheirBooks s }
-{}
-
-/// What a seat was told are its own events of the run.
-pub fn seats_are_told()
-    ensures { (s : Setting) → SeatsAreTold s }
-{}
-
 /// The choice that the looks of a thief show is the first deque that is ready, as its word picks it.
 pub fn victims_are_first()
     ensures { (s : Setting) → VictimsAreFirst s }
-{}
-
-/// If they show nothing to steal, no deque in reach is ready.
-pub fn nothing_is_ready()
-    ensures { (s : Setting) → NothingIsReady s }
 {}
 
 /// A top thread that was excused stays so, while its owner's seat keeps its want of memory and a kept end stays.

@@ -1,5 +1,0 @@
-use Rattle.hall_interleavings.proofs.Placing as law
-use Rattle.hall_interleavings.proofs.point_laws.others_keep_points.Goals as goal
-
-pub returns : goal.returns
-returns c = law.others_keep_points

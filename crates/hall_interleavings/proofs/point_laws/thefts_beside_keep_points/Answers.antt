@@ -1,5 +1,0 @@
-use Rattle.hall_interleavings.proofs.Placing as law
-use Rattle.hall_interleavings.proofs.point_laws.thefts_beside_keep_points.Goals as goal
-
-pub returns : goal.returns
-returns c = law.thefts_beside_keep_points

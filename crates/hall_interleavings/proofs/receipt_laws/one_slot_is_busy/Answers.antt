@@ -1,5 +1,0 @@
-use Rattle.hall_interleavings.proofs.Refused as law
-use Rattle.hall_interleavings.proofs.receipt_laws.one_slot_is_busy.Goals as goal
-
-pub returns : goal.returns
-returns c = law.one_slot_is_busy

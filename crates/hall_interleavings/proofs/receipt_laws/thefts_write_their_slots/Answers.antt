@@ -1,5 +1,0 @@
-use Rattle.hall_interleavings.proofs.Slots as law
-use Rattle.hall_interleavings.proofs.receipt_laws.thefts_write_their_slots.Goals as goal
-
-pub returns : goal.returns
-returns c = law.thefts_write_their_slots
