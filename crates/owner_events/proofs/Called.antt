@@ -8,8 +8,7 @@ use Rattle.hall_slots.specs.declared.lane_slot.LaneSlot.{LaneSlot}
 use Rattle.hall_slots.specs.declared.slot.Slot.TheVariants as slots
 use Rattle.owner_acts.specs.Passed.Advancing.{HasLooked, IsAtNext, took_lane}
 use Rattle.owner_acts.specs.Passed.AtNext.{AtNext}
-use Rattle.owner_events.proofs.Doing.{taken_leaves}
-use Rattle.owner_events.proofs.Following.{looked, note}
+use Rattle.owner_events.proofs.Following.{leaves, looked, note}
 use Rattle.owner_events.specs.Acting.{Acts, AtLane, Does}
 use Rattle.owner_events.specs.Holding.{FailsBy, found_note, last_look, looks_of, refusal_note}
 use Rattle.owner_events.specs.declared.acted.Acted.{Acted}
@@ -32,7 +31,8 @@ acts key before middle deque lane at next ready taken is_next (Ok acted) after d
   is_next = is_next;
   seen = d.seen;
   decides = d.decides;
-  leaves = taken_leaves before middle after acted.owned acted.event (deque.0 + 2) (slots.Lane lane) taken (looks_of d.seen) d.leaves;
+  leaves = leaves before middle ((deque.0 + 2, slots.Lane lane) ∷ before.hand.holds) (took_lane deque lane ∷ []) taken after acted.owned acted.event
+      (looks_of d.seen) d.leaves;
 }
 acts key before middle deque lane at next ready taken is_next (Err refused) after d = inr (record {
   lane = lane;
@@ -42,7 +42,8 @@ acts key before middle deque lane at next ready taken is_next (Err refused) afte
   is_next = is_next;
   seen = d.1.0;
   refuses = d.1.1;
-  leaves = looked before middle (deque.0 + 2) (slots.Lane lane) taken after (looks_of d.1.0 ++ last_look refused)
+  leaves = looked before middle ((deque.0 + 2, slots.Lane lane) ∷ before.hand.holds) (took_lane deque lane ∷ []) taken after
+      (looks_of d.1.0 ++ last_look refused)
       (refusal_note before.hand.note refused) (d.2
       ∙ ap (λ more. with_hand middle (record {
         seated = middle.hand.seated;
@@ -55,7 +56,7 @@ acts key before middle deque lane at next ready taken is_next (Err refused) afte
         holds = [];
         note = refusal_note n refused;
         looks = middle.hand.looks ++ (looks_of d.1.0 ++ last_look refused);
-      })) (note before middle (deque.0 + 2) (slots.Lane lane) taken));
+      })) (note before middle ((deque.0 + 2, slots.Lane lane) ∷ before.hand.holds) (took_lane deque lane ∷ []) taken));
 })
 
 -- the lane that it was refused, and the way to its action, for which there was not enough memory

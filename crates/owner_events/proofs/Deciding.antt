@@ -1,7 +1,6 @@
 -- What the next action of an owner asks for, by what it may do.
-use Rattle.std.proofs.Common.{◌≡◌, ℕ, ◌+◌, ◌<◌, true, false, [], ◌∷◌, sym, ap, ◌∙◌, subst}
+use Rattle.std.proofs.Common.{◌≡◌, ◌≢◌, ℕ, ◌+◌, ◌<◌, true, false, [], ◌∷◌, sym, ap, ◌∙◌, subst}
 use Rattle.std.specs.Prelude.{IsTrue}
-use Rattle.containers.specs.BoundedList.{entries, spare}
 use Rattle.dag_order.specs.declared.thread_id.ThreadId.{ThreadId}
 use Rattle.deque_list.specs.declared.deque_id.DequeId.{DequeId}
 use Rattle.owner_acts.specs.Passed.Taken.{its_lane}
@@ -13,9 +12,12 @@ use Rattle.hall_slots.specs.declared.lane_slot.LaneSlot.{LaneSlot}
 use Rattle.hall_slots.specs.declared.slot.Slot.TheVariants as slots
 use Rattle.owner_acts.proofs.Charging.{ready_may_be_done}
 use Rattle.owner_acts.specs.Quotas.{MayUse}
-use Rattle.owner_acts.specs.Passed.Advancing.{IsAtNext, MayCome}
+use Rattle.owner_acts.specs.Passed.Advancing.{IsAtNext, MayCome, took_lane}
 use Rattle.owner_acts.specs.Passed.AtNext.{AtNext}
-use Rattle.owner_acts.specs.Passed.SeatMemory.{SeatMemory}
+use Rattle.owner_acts.specs.WithPool.{IsWithPool}
+use Rattle.owner_acts.proofs.Passed.Ending.{ends_are_read}
+use Rattle.owner_events.proofs.Showing.{ready_is_due}
+use Rattle.owner_events.specs.Asked.{AsksWithPool}
 use Rattle.owner_events.proofs.Held.{comes, with_lane}
 use Rattle.owner_events.specs.Ready.{IsReadyTo}
 use Rattle.owner_events.proofs.Following.{note}
@@ -39,39 +41,53 @@ missing_is used k top Dummy child is = absurd is
 missing_is used k top (Fault fault) child is = absurd is
 missing_is used k top End child is = absurd is
 
-module _ (key : HallKey) (seat : HallSeat) (deque : DequeId) (at : AtNext) (next : Next) (memory : SeatMemory) (r : IsReadyTo key seat deque at next memory) where
-  pub may_use : (charge : ℕ) → IsReadiness at.running.period.used (quota_of key) at.top next (Ready charge)
-      → MayUse key seat.hand.note.worker next charge at.top at.running.period
-  may_use charge ready = let w = r.before.holding.is_next.within in
-      ready_may_be_done key seat.hand.note.worker charge next at.top at.running.period w.quota w.small w.used r.before.holding.is_next.listed ready
+module _ (key : HallKey) (seat : HallSeat) (deque : DequeId) (at : AtNext) (ready : ℕ) where
+  -- its action may be done, if it is ready
+  pub may_use : (next : Next) → IsReadyTo key seat deque at next ready → (charge : ℕ)
+      → IsReadiness at.running.period.used (quota_of key) at.top next (Ready charge) → MayUse key seat.hand.note.worker next charge at.top at.running.period
+  may_use next r charge is = let w = r.before.holding.is_next.within in
+      ready_may_be_done key seat.hand.note.worker charge next at.top at.running.period w.quota w.small w.used r.before.holding.is_next.listed is
 
--- a Join whose result was handed over
-pub there_by : (key : HallKey) (seat : HallSeat) (deque : DequeId) (at : AtNext) (child : ThreadId) (memory : SeatMemory)
-    → IsReadyTo key seat deque at (Join child) memory → is_delivered child (children_of at.top) ≡ true → IsTrue (is_there (newest (children_of at.top)))
-there_by key seat deque at child memory r is = let h = r.before.holding in
-    let reads = joins_are_read key seat deque h.lane at.top at.lane.items child (with_lane key seat deque at (Join child) (spare memory.births) h) r.meets
-    (comes key seat deque (its_lane deque) at (Join child) (spare memory.births) h) in
-    reads.there ∙ sym reads.delivered ∙ is
+  -- for an action that needs the pool
+  pub with_pool : (next : Next) → IsReadyTo key seat deque at next ready → (charge : ℕ)
+      → IsReadiness at.running.period.used (quota_of key) at.top next (Ready charge) → IsWithPool next at.top at.lane.items
+      → AsksWithPool key seat.hand.note.worker at next charge
+  with_pool next r charge is suits = record { suits = suits; due = ready_is_due key at charge next is; uses = may_use next r charge is }
+
+  -- a Join whose result was handed over
+  pub there_by : (child : ThreadId) → IsReadyTo key seat deque at (Join child) ready → is_delivered child (children_of at.top) ≡ true
+      → IsTrue (is_there (newest (children_of at.top)))
+  there_by child r is = let h = r.before.holding in
+      let reads = joins_are_read key seat deque h.lane at.top at.lane.items child (with_lane key seat deque at (Join child) ready h) r.meets
+      (comes key seat deque (its_lane deque) at (Join child) ready h) in
+      reads.there ∙ sym reads.delivered ∙ is
+
+  -- an End above its parent
+  pub ends_above : (r : IsReadyTo key seat deque at End ready) → at.lane.items ≢ [] → IsWithPool End at.top at.lane.items
+  ends_above r above = let h = r.before.holding in
+      let reads = ends_are_read key seat deque h.lane at.top at.lane.items (with_lane key seat deque at End ready h) r.meets
+      (comes key seat deque (its_lane deque) at End ready h) in
+      (reads.forked above, above, reads.below)
 
 -- a seat whose top thread has come to its next action
-pub ready_to : (key : HallKey) (before middle : HallSeat) (deque : DequeId) (lane : LaneSlot) (at : AtNext) (next : Next) (memory : SeatMemory)
-    → MayCome before deque → IsTaken before (deque.0 + 2) (slots.Lane lane) middle → IsAtNext key lane at next (spare memory.births) → MeetsLaw key middle
-    → entries memory.births ≡ [] → IsReadyTo key middle deque at next memory
-ready_to key before middle deque lane at next memory may taken is_next meets births = record {
-  before = record {
-    holding = record {
-      goes = record {
-        placed = subst (λ n. 0 < n) (sym (ap (λ s. s.places) (note before middle (deque.0 + 2) (slots.Lane lane) taken))) may.may.goes.placed;
-        stays = ap (λ s. s.left) (note before middle (deque.0 + 2) (slots.Lane lane) taken) ∙ may.may.goes.stays;
-        owns = ap (λ s. s.deque) (note before middle (deque.0 + 2) (slots.Lane lane) taken) ∙ may.may.goes.owns;
+pub ready_to : (key : HallKey) (before middle : HallSeat) (deque : DequeId) (lane : LaneSlot) (at : AtNext) (next : Next) (ready : ℕ)
+    → MayCome before deque → IsTaken before (deque.0 + 2) (slots.Lane lane) middle → IsAtNext key lane at next ready → MeetsLaw key middle
+    → IsReadyTo key middle deque at next ready
+ready_to key before middle deque lane at next ready may taken is_next meets =
+    let same = note before middle ((deque.0 + 2, slots.Lane lane) ∷ before.hand.holds) (took_lane deque lane ∷ []) taken in record {
+      before = record {
+        holding = record {
+          goes = record {
+            placed = subst (λ n. 0 < n) (sym (ap (λ s. s.places) same)) may.may.goes.placed;
+            stays = ap (λ s. s.left) same ∙ may.may.goes.stays;
+            owns = ap (λ s. s.deque) same ∙ may.may.goes.owns;
+          };
+          lane = lane;
+          holds = ap (λ (s : HallSeat). s.hand.holds) taken ∙ ap (λ xs. (deque.0 + 2, slots.Lane lane) ∷ xs) may.free;
+          is_next = is_next;
+        };
+        free = ap (λ s. s.counting) same ∙ may.may.counting;
+        none = ap (λ s. s.found) same ∙ may.none;
       };
-      lane = lane;
-      holds = ap (λ (s : HallSeat). s.hand.holds) taken ∙ ap (λ xs. (deque.0 + 2, slots.Lane lane) ∷ xs) may.free;
-      is_next = is_next;
-    };
-    free = ap (λ s. s.counting) (note before middle (deque.0 + 2) (slots.Lane lane) taken) ∙ may.may.counting;
-    none = ap (λ s. s.found) (note before middle (deque.0 + 2) (slots.Lane lane) taken) ∙ may.none;
-  };
-  meets = meets;
-  births = births;
-}
+      meets = meets;
+    }

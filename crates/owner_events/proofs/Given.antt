@@ -20,7 +20,31 @@ use Rattle.hall_slots.specs.declared.slot.Slot.{Slot}
 use Rattle.owner_acts.proofs.Passed.Readable.{shows_the_same}
 use Rattle.owner_acts.specs.Passed.AtNext.{AtNext}
 use Rattle.owner_acts.specs.Passed.Returning.{MayNote, ReturnsLane, ReturnsPool, ReturnsList, ReturnsAll}
+use Rattle.owner_acts.proofs.Passed.Returned.{same_list}
+use Rattle.owner_acts.specs.WithAll.{HasMoreWith}
+use Rattle.owner_acts.specs.WithList.{HasMoreFor}
+use Rattle.owner_acts.specs.declared.with_all.WholeEvent.{WholeEvent}
+use Rattle.owner_acts.specs.declared.with_all.WholeEvent.TheVariants as whole
+use Rattle.owner_acts.specs.declared.with_list.ListEvent.{ListEvent}
+use Rattle.owner_acts.specs.declared.with_list.ListEvent.TheVariants.{GiveUp, Wait, Dummy, Join, RootEnd}
+use Rattle.owner_events.proofs.WithList as with
 use Rattle.owner_events.specs.Holding.{IsHolding}
+use Rattle.owner_events.specs.Taken.{slots_of, HasMoreOf}
+use Rattle.owner_events.specs.declared.taken.Taken.{Taken}
+use Rattle.owner_events.specs.declared.taken.Taken.TheVariants.{OnLane, WithPool, WithList, WithAll}
+
+-- room for one event is room of any kind
+more_for : (event : ListEvent) (was now : ListSlot) → HasMoreFor event was now → HasMoreRoom was now
+more_for GiveUp was now more = with.more_books was now more
+more_for (Wait child) was now more = with.more_to_wait was now more
+more_for Dummy was now more = with.more_books was now more
+more_for (Join child) was now more = subst (HasMoreRoom was) (sym more) (same_list was)
+more_for RootEnd was now more = with.more_to_leave was now more
+
+more_with : (event : WholeEvent) (was now : ListSlot) → HasMoreWith event was now → HasMoreRoom was now
+more_with (whole.Join child) was now more = subst (HasMoreRoom was) (sym more) (same_list was)
+more_with whole.Wake was now more = subst (HasMoreRoom was) (sym more) (same_list was)
+more_with whole.Leave was now more = with.more_to_leave was now more
 
 module _ (key : HallKey) (seat : HallSeat) (deque : DequeId) (taken : LaneSlot → List (ℕ × Slot)) (at : AtNext) (next : Next) (ready : ℕ)
     (is : IsHolding key seat deque taken at next ready) (lane : LaneSlot) (items : lane.lane.items ≡ at.top ∷ at.lane.items) (running : lane.running ≡ Some at.running) where
@@ -76,3 +100,17 @@ module _ (key : HallKey) (seat : HallSeat) (deque : DequeId) (at : AtNext) (next
       lane_same = lane_back key seat deque (all_three deque was pool_was) at next ready is lane items running;
       may = note (parts was pool_was is.lane);
     }
+
+    -- whatever it took
+    abbrev pub IsBack : Taken → Type 0
+    IsBack (OnLane child) = IsStillThere key seat deque lane
+    IsBack (WithPool pool action charge) = ReturnsPool key seat deque pool lane noting
+    IsBack (WithList list event) = ReturnsList key seat deque list lane noting
+    IsBack (WithAll list pool event) = ReturnsAll key seat deque list pool lane noting
+
+    pub back : (was now : Taken) → HasMoreOf was now → IsHolding key seat deque (slots_of deque was) at next ready → IsBack now
+    back (OnLane child) now more is = subst IsBack (sym more) (still_there is)
+    back (WithPool pool action charge) now more is = subst IsBack (sym more.1) (pool_back pool more.0 more.2 is)
+    back (WithList list event) now more is = subst IsBack (sym more.1) (list_back list more.0 (more_for event list more.0 more.2) is)
+    back (WithAll list pool event) now more is = subst IsBack (sym more.2)
+        (all_back list more.0 (more_with event list more.0 more.3) pool more.1 more.4 is)

@@ -1,6 +1,6 @@
 -- Which refusal the looks of an owner show, by where it failed.
-use Rattle.std.proofs.Common.{◌≡◌, ℕ, List, [], ◌∷◌, ◌++◌, inl, inr, refl, sym, ap, ◌∙◌, subst}
-use Rattle.std.specs.Prelude.{Option, None, Some}
+use Rattle.std.proofs.Common.{◌≡◌, ℕ, ◌+◌, ◌<◌, List, [], ◌∷◌, ◌++◌, inl, inr, refl, sym, ap, ◌∙◌, subst}
+use Rattle.std.specs.Prelude.{None, Some}
 use Rattle.dag_order.specs.declared.action_id.ActionId.{ActionId}
 use Rattle.deque_list.specs.declared.deque_id.DequeId.{DequeId}
 use Rattle.hall_slots.specs.declared.event.Event.{Event}
@@ -12,38 +12,35 @@ use Rattle.hall_slots.specs.declared.slot.Slot.{Slot}
 use Rattle.hall_slots.specs.declared.slot.Slot.TheVariants as slots
 use Rattle.owner_acts.specs.Passed.AtNext.{AtNext}
 use Rattle.owner_acts.specs.WithPool.{IsWithPool, words_asked_by}
-use Rattle.owner_events.proofs.Showing.{asks_for_pool, pool_slots, pool_to_do}
+use Rattle.owner_events.proofs.Showing.{asks_for_pool, pool_to_do}
 use Rattle.owner_events.specs.Acting.{IsRefusalWith}
 use Rattle.owner_events.specs.Decided.{HasItsSlots, IsDue, IsToDo, NeedsCount, NeedsPool}
-use Rattle.owner_events.specs.Holding.{AtCount, AtList, AtMemory, AtMemoryOrCount, AtPool, AtPoolAlone, AtPoolOrThen, looks_of}
+use Rattle.owner_events.specs.Holding.{AtCount, AtList, AtMemory, AtPool, looks_of}
 use Rattle.owner_events.specs.Refusing.{AsksForList, IsRefusal}
+use Rattle.owner_events.specs.Taken.{list_in, looks_in, pool_in}
 use Rattle.owner_events.specs.declared.refused.ActRefused.{ActRefused}
 use Rattle.owner_events.specs.declared.refused.ActRefused.TheVariants.{Busy, Over, Stopped}
-use Rattle.play_rules.specs.declared.stop.Stop.{Stop}
+use Rattle.owner_events.specs.declared.taken.Taken.{Taken}
+use Rattle.owner_events.specs.declared.taken.Taken.TheVariants.{OnLane, WithPool, WithList, WithAll}
+use Rattle.play_rules.specs.declared.stop.Stop.TheVariants.{ArenaFull}
 use Rattle.thread_frames.specs.declared.next.Next.{Next}
+use Rattle.turn_table.specs.declared.held.Held.{Held}
 use Rattle.turn_table.specs.declared.look.Look.{Look}
-use Rattle.turn_table.specs.declared.look.Look.TheVariants.{Took, Counted}
+use Rattle.turn_table.specs.declared.look.Look.TheVariants.{Took, Refused, Counted}
 
--- what it saw of the list and the pool, and then these answers
-abbrev pub prefixed : Option ListSlot → Option PoolSlot → List (Look Slot) → List (Look Slot)
-prefixed None None rest = rest
-prefixed None (Some pool) rest = Took 1 (slots.Pool pool) ∷ rest
-prefixed (Some list) None rest = Took 0 (slots.List list) ∷ rest
-prefixed (Some list) (Some pool) rest = Took 0 (slots.List list) ∷ Took 1 (slots.Pool pool) ∷ rest
+-- what it saw of the list and the pool, and then no more, or a count
+uncounted : (taken : Taken) → looks_in taken ++ [] ≡ looks_of (record { list = list_in taken; pool = pool_in taken; count = None }) ++ []
+uncounted (OnLane child) = refl
+uncounted (WithPool pool next charge) = refl
+uncounted (WithList list event) = refl
+uncounted (WithAll list pool event) = refl
 
-uncounted : (list : Option ListSlot) (pool : Option PoolSlot)
-    → prefixed list pool [] ≡ looks_of (record { list = list; pool = pool; count = None }) ++ []
-uncounted None None = refl
-uncounted None (Some pool) = refl
-uncounted (Some list) None = refl
-uncounted (Some list) (Some pool) = refl
-
-counted : (list : Option ListSlot) (pool : Option PoolSlot) (found : ℕ)
-    → prefixed list pool (Counted found ∷ []) ≡ looks_of (record { list = list; pool = pool; count = Some found }) ++ []
-counted None None found = refl
-counted None (Some pool) found = refl
-counted (Some list) None found = refl
-counted (Some list) (Some pool) found = refl
+counted : (taken : Taken) (found : ℕ)
+    → looks_in taken ++ Counted found ∷ [] ≡ looks_of (record { list = list_in taken; pool = pool_in taken; count = Some found }) ++ []
+counted (OnLane child) found = refl
+counted (WithPool pool next charge) found = refl
+counted (WithList list event) found = refl
+counted (WithAll list pool event) found = refl
 
 module _ (key : HallKey) (deque : DequeId) (at : AtNext) (next : Next) where
   -- at the list
@@ -54,61 +51,46 @@ module _ (key : HallKey) (deque : DequeId) (at : AtNext) (next : Next) where
   list_refusal asks more (Stopped stop) a = absurd a
 
   -- before a count, and at it
-  module _ (list : Option ListSlot) (pool : Option PoolSlot) (event : Event) (has : HasItsSlots key deque at next list pool event) where
-    pub memory_refusal : (rest : List (Look Slot)) (refused : ActRefused) → AtMemory rest refused → IsRefusal key deque at next (prefixed list pool rest) refused
-    memory_refusal rest refused a = subst (λ r. IsRefusal key deque at next (prefixed list pool rest) r) (sym a.0) (
-      record { list = list; pool = pool; count = None },
+  module _ (taken : Taken) (event : Event) (has : HasItsSlots key deque at next (list_in taken) (pool_in taken) event) where
+    pub memory_refusal : (rest : List (Look Slot)) (refused : ActRefused) → AtMemory rest refused → IsRefusalWith key deque at next taken rest refused
+    memory_refusal rest refused a = subst (λ r. IsRefusalWith key deque at next taken rest r) (sym a.0) (
+      record { list = list_in taken; pool = pool_in taken; count = None },
       (refl, event, has),
-      ap (prefixed list pool) a.1 ∙ uncounted list pool,
+      ap (λ more. looks_in taken ++ more) a.1 ∙ uncounted taken,
     )
 
-    module _ (counts : NeedsCount event) where
-      pub count_refusal : (rest : List (Look Slot)) (refused : ActRefused) → AtCount key.actions rest refused
-          → IsRefusal key deque at next (prefixed list pool rest) refused
-      count_refusal rest refused a = subst (λ r. IsRefusal key deque at next (prefixed list pool rest) r) (sym a.2) (
-        record { list = list; pool = pool; count = Some a.0 },
-        (refl, a.1, event, has, counts),
-        ap (prefixed list pool) a.3 ∙ counted list pool a.0,
-      )
-
-      pub then_refusal : (rest : List (Look Slot)) (refused : ActRefused) → AtMemoryOrCount key.actions rest refused
-          → IsRefusal key deque at next (prefixed list pool rest) refused
-      then_refusal rest refused a = elim a [
-        | inl memory ↦ memory_refusal rest refused memory
-        | inr count ↦ count_refusal rest refused count
-      ]
+    pub count_refusal : NeedsCount event → (rest : List (Look Slot)) (refused : ActRefused) → AtCount key.actions rest refused
+        → IsRefusalWith key deque at next taken rest refused
+    count_refusal counts rest refused a = subst (λ r. IsRefusalWith key deque at next taken rest r) (sym a.2) (
+      record { list = list_in taken; pool = pool_in taken; count = Some a.0 },
+      (refl, a.1, event, has, counts),
+      ap (λ more. looks_in taken ++ more) a.3 ∙ counted taken a.0,
+    )
 
   -- at the pool, which it tried with its lane alone,
   module _ (suits : IsWithPool next at.top at.lane.items) (due : IsDue key at next None) (name : ActionId) where
-    at_pool : (more : List (Look Slot)) (refused : ActRefused) → AtPool (words_asked_by next) more refused → IsRefusal key deque at next more refused
-    at_pool more (Busy held) a = (
+    pub busy_refusal : (held : Held) → held.slot ≡ 1 → IsRefusal key deque at next (Refused held.slot held.seen ∷ []) (Busy held)
+    busy_refusal held is = (
       record { list = None; pool = None; count = None },
-      (refl, refl, inr (a.0, (Did name, pool_to_do key deque at next suits due name, asks_for_pool key deque at next suits due name))),
-      a.1,
-    )
-    at_pool more (Over end) a = absurd a
-    at_pool more (Stopped stop) a = subst (λ (s : Stop). IsRefusal key deque at next more (Stopped s)) (sym a.1) (
-      record { list = None; pool = Some a.0; count = None },
-      (refl, (Did name, pool_to_do key deque at next suits due name, asks_for_pool key deque at next suits due name), refl, (refl, a.2)),
-      a.3,
+      (refl, refl, inr (is, (Did name, pool_to_do key deque at next suits due name, asks_for_pool key deque at next suits due name))),
+      refl,
     )
 
-    pub pool_refusal : (more : List (Look Slot)) (refused : ActRefused) → AtPoolOrThen key.actions (words_asked_by next) more refused
-        → IsRefusal key deque at next more refused
-    pool_refusal more refused a = elim a [
-      | inl tried ↦ at_pool more refused tried
-      | inr had ↦ subst (λ (looks : List (Look Slot)). IsRefusal key deque at next looks refused) (sym had.3)
-          (then_refusal None (Some had.0) (Did name) (pool_slots key deque at next suits due name had.0 had.1) tt had.2 refused had.4)
-    ]
+    pub full_refusal : (pool : PoolSlot) → pool.pool.capacity < pool.pool.live + words_asked_by next
+        → IsRefusal key deque at next (Took 1 (slots.Pool pool) ∷ []) (Stopped (ArenaFull pool.pool.live (words_asked_by next)))
+    full_refusal pool full = (
+      record { list = None; pool = Some pool; count = None },
+      (refl, (Did name, pool_to_do key deque at next suits due name, asks_for_pool key deque at next suits due name), refl, (refl, full)),
+      refl,
+    )
 
   -- or with the list
-  module _ (list : ListSlot) (event : Event) (to_do : IsToDo key deque at next (Some list) event) (needs : NeedsPool at next (Some list) event) where
-    pub pool_too_refusal : (more : List (Look Slot)) (refused : ActRefused) → AtPoolAlone more refused
-        → IsRefusalWith key deque at next list more refused
-    pool_too_refusal more (Busy held) a = (
-      record { list = Some list; pool = None; count = None },
-      (refl, refl, inr (a.0, (event, to_do, needs))),
-      ap (λ (looks : List (Look Slot)). Took 0 (slots.List list) ∷ looks) a.1,
-    )
-    pool_too_refusal more (Over end) a = absurd a
-    pool_too_refusal more (Stopped stop) a = absurd a
+  pub pool_too_refusal : (list : ListSlot) (event : Event) → IsToDo key deque at next (Some list) event → NeedsPool at next (Some list) event
+      → (more : List (Look Slot)) (refused : ActRefused) → AtPool more refused → IsRefusal key deque at next (Took 0 (slots.List list) ∷ more) refused
+  pool_too_refusal list event to_do needs more (Busy held) a = (
+    record { list = Some list; pool = None; count = None },
+    (refl, refl, inr (a.0, (event, to_do, needs))),
+    ap (λ (looks : List (Look Slot)). Took 0 (slots.List list) ∷ looks) a.1,
+  )
+  pool_too_refusal list event to_do needs more (Over end) a = absurd a
+  pool_too_refusal list event to_do needs more (Stopped stop) a = absurd a

@@ -21,7 +21,7 @@ use Rattle.owner_acts.specs.declared.with_list.ListEvent.{ListEvent}
 use Rattle.owner_acts.specs.declared.with_list.ListEvent.TheVariants as listing
 use Rattle.owner_events.proofs.WithList.{some_of}
 use Rattle.owner_events.specs.Asked.{IsAskedByAll, IsAskedByList}
-use Rattle.owner_events.specs.Decided.{ActionNeedsList, ActionNeedsPool, Decides, HasItsSlots, IsDue, IsEventOf, IsSpent, IsToDo, IsWaiting}
+use Rattle.owner_events.specs.Decided.{ActionNeedsList, ActionNeedsPool, HasItsSlots, IsDue, IsEventOf, IsSpent, IsToDo, IsWaiting}
 use Rattle.owner_events.specs.Decided.{NeedsList, NeedsPool, owned_after, owned_at_end, owned_by}
 use Rattle.thread_actions.specs.Readiness.{IsReadiness}
 use Rattle.thread_actions.specs.declared.readiness.Readiness.TheVariants.{Ready, Spent}
@@ -92,7 +92,7 @@ module _ (key : HallKey) (deque : DequeId) (at : AtNext) where
   owned_above [] waits some = absurd (some refl)
   owned_above (thread ∷ under) waits some = refl
 
-  owned_with_pool : (next : Next) → IsWithPool next at.top at.lane.items → Some deque ≡ owned_by deque at next None
+  pub owned_with_pool : (next : Next) → IsWithPool next at.top at.lane.items → Some deque ≡ owned_by deque at next None
   owned_with_pool Fork suits = refl
   owned_with_pool (Join child) suits = refl
   owned_with_pool (Alloc words) suits = refl
@@ -111,10 +111,6 @@ module _ (key : HallKey) (deque : DequeId) (at : AtNext) where
     module _ (pool : PoolSlot) (fits : pool.pool.live + words_asked_by next ≤ pool.pool.capacity) where
       pub pool_slots : HasItsSlots key deque at next None (Some pool) (Did name)
       pool_slots = record { is_to_do = pool_to_do; pools = asks_for_pool; fits = fits }
-
-      pub pool_decides : (found : ℕ) → found < key.actions
-          → Decides key deque at next (record { list = None; pool = Some pool; count = Some found }) (Did name) (Some deque)
-      pool_decides found below = record { slots = pool_slots; counts = tt; below = below; owns = owned_with_pool next suits }
 
   -- with its lane alone
   pub lane_slots : (child : ThreadId) (name : ActionId) → is_delivered child (children_of at.top) ≡ true → join_words_of at.top ≡ 0

@@ -14,7 +14,7 @@ use Rattle.turn_table.specs.Seats.{with_hand}
 use Rattle.owner_acts.specs.Passed.Puts.{HasPut}
 use Rattle.owner_acts.specs.Passed.EventParts.{MayGoOn, MayPause}
 use Rattle.owner_acts.specs.Passed.Writes.{Parts}
-use Rattle.owner_acts.specs.Passed.Taken.{its_lane}
+use Rattle.owner_acts.specs.Passed.Taken.{its_lane, pool_and_lane}
 use Rattle.owner_acts.specs.Passed.NotingVariants.{Found}
 use Rattle.owner_acts.proofs.Passed.Reading.{pools_are_sound}
 use Rattle.hall_slots.specs.Lists.{answered_note}
@@ -32,7 +32,7 @@ use Rattle.owner_acts.proofs.Passed.Returned.{same_pool}
 use Rattle.owner_acts.specs.Passed.Returning.{MayNote, ReturnsPool}
 use Rattle.owner_events.proofs.Following.{is_before}
 use Rattle.owner_events.proofs.Given.{lane_back}
-use Rattle.owner_events.specs.Holding.{AtList, AtMemory, AtMemoryOrCount, AtPool, FailsBy, IsHolding, IsBefore, found_note}
+use Rattle.owner_events.specs.Holding.{AtList, AtMemory, FailsBy, IsHolding, IsBefore, found_note}
 use Rattle.owner_events.specs.Taking.{AsksByTheList}
 use Rattle.owner_acts.specs.WithPool.{words_asked_by}
 use Rattle.owner_events.specs.declared.refused.ActRefused.{ActRefused}
@@ -87,11 +87,6 @@ wanting before after put = (
   })) (sym (append-nil before.hand.looks)),
 )
 
--- or before a count
-pub wanting_first : (limit : ℕ) (before after : HallSeat) → HasPut before (found_note before.hand.note OutOfMemory) [] after
-    → FailsBy (AtMemoryOrCount limit) before (Stopped OutOfMemory) after
-wanting_first limit before after put = let w = wanting before after put in (w.0, inl w.1, w.2)
-
 -- the list that it took, in which an end is kept
 module _ (before middle : HallSeat) (list : ListSlot) (end : RunEnd) (kept : list.end ≡ Some end) (taken : IsTaken before 0 (slots.List list) middle) where
   pub over : (after : HallSeat) → HasPut middle (answered_note middle.hand.note list) [] after → FailsBy AtList before (Over end) after
@@ -125,8 +120,9 @@ module _ (key : HallKey) (before middle : HallSeat) (deque : DequeId) (pool : Po
   -- which has no room for the words of the action
   module _ (at : AtNext) (next : Next) (ready : ℕ) (b : IsBefore key before deque (its_lane deque) at next ready) (asks : AsksByTheList key at next)
       (full : pool.pool.capacity < pool.pool.live + words_asked_by next) where
-    then : IsBefore key middle deque (λ lane. (1, slots.Pool pool) ∷ its_lane deque lane) at next ready
-    then = is_before before middle 1 (slots.Pool pool) taken key deque (its_lane deque) at next ready b
+    then : IsBefore key middle deque (pool_and_lane deque pool) at next ready
+    then = is_before before middle ((1, slots.Pool pool) ∷ before.hand.holds) (Took 1 (slots.Pool pool) ∷ []) taken key deque (its_lane deque)
+        (pool_and_lane deque pool) at next ready (λ lane held. ap (λ (xs : List (ℕ × Slot)). (1, slots.Pool pool) ∷ xs) held) b
 
     too_full : key.capacity < pool.pool.live + words_asked_by next
     too_full = subst (λ n. n < pool.pool.live + words_asked_by next) pool_sound.capacity full
@@ -141,9 +137,10 @@ module _ (key : HallKey) (before middle : HallSeat) (deque : DequeId) (pool : Po
       lane_was = then.holding.lane;
       holds = then.holding.holds;
       pool_same = same_pool pool;
-      lane_same = lane_back key middle deque (λ lane. (1, slots.Pool pool) ∷ its_lane deque lane) at next ready then.holding lane items running;
+      lane_same = lane_back key middle deque (pool_and_lane deque pool) at next ready then.holding lane items running;
       may = λ list. full_arenas_may_be_noted key middle deque list pool then.holding.lane next at.top at.lane.items at.running.worker at.running.period (words_asked_by next)
-          b.holding.is_next.within.quota (may_pause key middle deque (λ lane. (1, slots.Pool pool) ∷ its_lane deque lane) at next ready then) then.none then.holding.is_next.at_action
+          b.holding.is_next.within.quota (may_pause key middle deque (pool_and_lane deque pool) at next ready then) then.none
+          then.holding.is_next.at_action
           (asks pool.pool.live few too_full);
     }
 
@@ -154,11 +151,13 @@ module _ (key : HallKey) (before middle : HallSeat) (deque : DequeId) (pool : Po
         (full_back lane items running)
 
     -- so it fails
-    pub full_fails : (asked : ℕ) → asked ≡ words_asked_by next → (stop : Stop) → stop ≡ ArenaFull pool.pool.live asked → (after : HallSeat)
-        → HasPut middle (found_note middle.hand.note stop) [] after → FailsBy (AtPool (words_asked_by next)) before (Stopped stop) after
-    full_fails asked asked_is stop is after put = (
+    pub full_fails : (Shows : List (Look Slot) → ActRefused → Type 0)
+        → Shows (Took 1 (slots.Pool pool) ∷ []) (Stopped (ArenaFull pool.pool.live (words_asked_by next))) → (asked : ℕ) → asked ≡ words_asked_by next
+        → (stop : Stop) → stop ≡ ArenaFull pool.pool.live asked → (after : HallSeat)
+        → HasPut middle (found_note middle.hand.note stop) [] after → FailsBy Shows before (Stopped stop) after
+    full_fails Shows shows asked asked_is stop is after put = (
       Took 1 (slots.Pool pool) ∷ [],
-      (pool, is ∙ ap (ArenaFull pool.pool.live) asked_is, full, refl),
+      subst (λ s. Shows (Took 1 (slots.Pool pool) ∷ []) (Stopped s)) (sym (is ∙ ap (ArenaFull pool.pool.live) asked_is)) shows,
       put ∙ ap (λ (s : HallSeat). with_hand s (record {
         seated = s.hand.seated;
         holds = [];

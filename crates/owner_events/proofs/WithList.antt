@@ -18,7 +18,7 @@ use Rattle.owner_events.proofs.FromList as from
 use Rattle.owner_events.proofs.Held.{comes, list_held, with_list}
 use Rattle.owner_events.specs.Holding.{IsBefore}
 use Rattle.space_ledger.specs.BooksList.{books_spare}
-use Rattle.owner_events.specs.Ready.{IsKeptFor}
+use Rattle.owner_events.specs.Asked.{IsKeptFor}
 use Rattle.thread_frames.specs.declared.ended.Ended.{Ended}
 use Rattle.thread_frames.specs.declared.next.Next.{Next}
 use Rattle.thread_frames.specs.declared.thread.Thread.{Thread}

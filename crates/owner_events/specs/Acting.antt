@@ -1,26 +1,25 @@
 -- What the call of an owner does and answers.
-use Rattle.std.specs.Prelude.{◌≡◌, ◌⊎◌, ℕ, ◌+◌, Option, Some, List, [], ◌∷◌, ◌++◌, Result, Ok, Err}
+use Rattle.std.specs.Prelude.{◌≡◌, ◌⊎◌, ℕ, ◌+◌, Option, List, [], ◌∷◌, ◌++◌, Result, Ok, Err}
 use Rattle.deque_list.specs.declared.deque_id.DequeId.{DequeId}
 use Rattle.play_rules.specs.declared.stop.Stop.TheVariants.{OutOfMemory}
 use Rattle.thread_frames.specs.declared.next.Next.{Next}
 use Rattle.turn_table.specs.declared.look.Look.{Look}
-use Rattle.turn_table.specs.declared.look.Look.TheVariants.{Took, Refused}
+use Rattle.turn_table.specs.declared.look.Look.TheVariants.{Refused}
 use Rattle.owner_acts.specs.Passed.Writes.{told_note}
 use Rattle.hall_slots.specs.Takes.{HallSeat}
 use Rattle.hall_slots.specs.declared.key.HallKey.{HallKey}
 use Rattle.hall_slots.specs.declared.lane_slot.LaneSlot.{LaneSlot}
-use Rattle.hall_slots.specs.declared.list_slot.ListSlot.{ListSlot}
-use Rattle.hall_slots.specs.declared.pool_slot.PoolSlot.{PoolSlot}
 use Rattle.hall_slots.specs.declared.slot.Slot.{Slot}
-use Rattle.hall_slots.specs.declared.slot.Slot.TheVariants as slots
 use Rattle.owner_acts.specs.Passed.Advancing.{IsAtNext, HasLooked, took_lane}
 use Rattle.owner_acts.specs.Passed.AtNext.{AtNext}
 use Rattle.owner_events.specs.Decided.{Decides, Seen}
-use Rattle.owner_events.specs.Holding.{FailsBy, last_look, look_at_count, look_at_pool, looks_of, refusal_note}
+use Rattle.owner_events.specs.Holding.{FailsBy, last_look, look_at_count, looks_of, refusal_note}
 use Rattle.owner_events.specs.Refusing.{IsRefusal, Refuses}
 use Rattle.owner_events.specs.declared.acted.Acted.{Acted}
 use Rattle.owner_events.specs.declared.refused.ActRefused.{ActRefused}
 use Rattle.owner_events.specs.declared.refused.ActRefused.TheVariants.{Busy, Over, Stopped}
+use Rattle.owner_events.specs.Taken.{list_in, looks_in, pool_in}
+use Rattle.owner_events.specs.declared.taken.Taken.{Taken}
 
 -- The seat that held its lane did the event that it was to do by what it saw; it notes this, and holds nothing.
 pub record HasDone (key : HallKey) (before : HallSeat) (deque : DequeId) (at : AtNext) (next : Next) (acted : Acted) (after : HallSeat) : Type 0 where
@@ -68,18 +67,17 @@ abbrev pub Acts : HallKey → HallSeat → DequeId → Result Acted ActRefused �
 Acts key before deque (Ok acted) after = HasActed key before deque acted after
 Acts key before deque (Err refused) after = FailsBy (AtLane deque) before refused after ⊎ FailsAt key before deque refused after
 
--- So it is with a seat that held its lane and this list: it did an event for which it needs the list, or failed.
-pub record HasDoneWithList (key : HallKey) (before : HallSeat) (deque : DequeId) (at : AtNext) (next : Next) (list : ListSlot) (acted : Acted)
+-- So it is with a seat that took what the event needs: it did this event, with a count if it is an action, or failed.
+pub record HasDoneWith (key : HallKey) (before : HallSeat) (deque : DequeId) (at : AtNext) (next : Next) (taken : Taken) (acted : Acted)
     (after : HallSeat) : Type 0 where
-  pub pool : Option PoolSlot
   pub count : Option ℕ
-  pub decides : Decides key deque at next (record { list = Some list; pool = pool; count = count }) acted.event acted.owned
-  pub leaves : HasLooked before (look_at_pool pool ++ look_at_count count) (told_note before.hand.note acted.owned acted.event) after
+  pub decides : Decides key deque at next (record { list = list_in taken; pool = pool_in taken; count = count }) acted.event acted.owned
+  pub leaves : HasLooked before (look_at_count count) (told_note before.hand.note acted.owned acted.event) after
 
--- it saw the list before
-abbrev pub IsRefusalWith : HallKey → DequeId → AtNext → Next → ListSlot → List (Look Slot) → ActRefused → Type 0
-IsRefusalWith key deque at next list more refused = IsRefusal key deque at next (Took 0 (slots.List list) ∷ more) refused
+-- it saw before what it took
+abbrev pub IsRefusalWith : HallKey → DequeId → AtNext → Next → Taken → List (Look Slot) → ActRefused → Type 0
+IsRefusalWith key deque at next taken more refused = IsRefusal key deque at next (looks_in taken ++ more) refused
 
-abbrev pub DoesWithList : HallKey → HallSeat → DequeId → AtNext → Next → ListSlot → Result Acted ActRefused → HallSeat → Type 0
-DoesWithList key before deque at next list (Ok acted) after = HasDoneWithList key before deque at next list acted after
-DoesWithList key before deque at next list (Err refused) after = FailsBy (IsRefusalWith key deque at next list) before refused after
+abbrev pub DoesWith : HallKey → HallSeat → DequeId → AtNext → Next → Taken → Result Acted ActRefused → HallSeat → Type 0
+DoesWith key before deque at next taken (Ok acted) after = HasDoneWith key before deque at next taken acted after
+DoesWith key before deque at next taken (Err refused) after = FailsBy (IsRefusalWith key deque at next taken) before refused after

@@ -1,8 +1,8 @@
 -- What an owner holds whose top thread has come to its next action, and how its call fails.
-use Rattle.std.specs.Prelude.{◌≡◌, ◌⊎◌, ℕ, ◌+◌, ◌<◌, ◌≤◌, true, false, Option, None, Some, List, [], ◌∷◌, ◌++◌, Result, Ok, Err}
+use Rattle.std.specs.Prelude.{◌≡◌, ℕ, ◌≤◌, false, Option, None, Some, List, [], ◌∷◌, ◌++◌, Result, Ok, Err}
 use Rattle.deque_list.specs.declared.deque_id.DequeId.{DequeId}
 use Rattle.play_rules.specs.declared.stop.Stop.{Stop}
-use Rattle.play_rules.specs.declared.stop.Stop.TheVariants.{ArenaFull, StepsSpent, OutOfMemory}
+use Rattle.play_rules.specs.declared.stop.Stop.TheVariants.{StepsSpent, OutOfMemory}
 use Rattle.thread_frames.specs.declared.next.Next.{Next}
 use Rattle.turn_table.specs.declared.look.Look.{Look}
 use Rattle.turn_table.specs.declared.look.Look.TheVariants.{Took, Refused, Counted}
@@ -29,18 +29,12 @@ pub record IsHolding (key : HallKey) (seat : HallSeat) (deque : DequeId) (taken 
   pub holds : seat.hand.holds ≡ taken lane
   pub is_next : IsAtNext key lane at next ready
 
--- It holds no count and has found no stop;
+-- It holds no count and has found no stop.
 pub record IsBefore (key : HallKey) (seat : HallSeat) (deque : DequeId) (taken : LaneSlot → List (ℕ × Slot)) (at : AtNext) (next : Next)
     (ready : ℕ) : Type 0 where
   pub holding : IsHolding key seat deque taken at next ready
   pub free : seat.hand.note.counting ≡ false
   pub none : seat.hand.note.found ≡ None
-
--- or it holds a count.
-pub record IsCounted (key : HallKey) (seat : HallSeat) (deque : DequeId) (taken : LaneSlot → List (ℕ × Slot)) (at : AtNext) (next : Next)
-    (ready : ℕ) : Type 0 where
-  pub holding : IsHolding key seat deque taken at next ready
-  pub counting : seat.hand.note.counting ≡ true
 
 -- the note of a seat that found a stop
 abbrev pub found_note : SeatNote → Stop → SeatNote
@@ -85,17 +79,11 @@ AtList more (Busy held) = (held.slot ≡ 0) × (more ≡ Refused held.slot held.
 AtList more (Over end) = (list : ListSlot) × (list.end ≡ Some end) × (more ≡ Took 0 (slots.List list) ∷ [])
 AtList more (Stopped stop) = ⊥
 
--- At the pool: it was refused; or so many words do not fit there, if some are asked for.
-abbrev pub AtPoolAlone : List (Look Slot) → ActRefused → Type 0
-AtPoolAlone more (Busy held) = (held.slot ≡ 1) × (more ≡ Refused held.slot held.seen ∷ [])
-AtPoolAlone more (Over end) = ⊥
-AtPoolAlone more (Stopped stop) = ⊥
-
-abbrev pub AtPool : (asked : ℕ) → List (Look Slot) → ActRefused → Type 0
-AtPool asked more (Busy held) = (held.slot ≡ 1) × (more ≡ Refused held.slot held.seen ∷ [])
-AtPool asked more (Over end) = ⊥
-AtPool asked more (Stopped stop) = (pool : PoolSlot) × (stop ≡ ArenaFull pool.pool.live asked)
-    × (pool.pool.capacity < pool.pool.live + asked) × (more ≡ Took 1 (slots.Pool pool) ∷ [])
+-- At the pool: it was refused.
+abbrev pub AtPool : List (Look Slot) → ActRefused → Type 0
+AtPool more (Busy held) = (held.slot ≡ 1) × (more ≡ Refused held.slot held.seen ∷ [])
+AtPool more (Over end) = ⊥
+AtPool more (Stopped stop) = ⊥
 
 -- Before a count: there was not enough memory. At a count: it is at the limit or above it.
 abbrev pub AtMemory : List (Look Slot) → ActRefused → Type 0
@@ -103,15 +91,6 @@ AtMemory more refused = (refused ≡ Stopped OutOfMemory) × (more ≡ [])
 
 abbrev pub AtCount : (limit : ℕ) → List (Look Slot) → ActRefused → Type 0
 AtCount limit more refused = (found : ℕ) × (limit ≤ found) × (refused ≡ Stopped (StepsSpent limit)) × (more ≡ Counted found ∷ [])
-
-abbrev pub AtMemoryOrCount : (limit : ℕ) → List (Look Slot) → ActRefused → Type 0
-AtMemoryOrCount limit more refused = AtMemory more refused ⊎ AtCount limit more refused
-
--- At the pool, or once it has the pool, where the words fit.
-abbrev pub AtPoolOrThen : (limit asked : ℕ) → List (Look Slot) → ActRefused → Type 0
-AtPoolOrThen limit asked more refused = AtPool asked more refused
-    ⊎ ((pool : PoolSlot) × (pool.pool.live + asked ≤ pool.pool.capacity) × (rest : List (Look Slot))
-    × (more ≡ Took 1 (slots.Pool pool) ∷ rest) × AtMemoryOrCount limit rest refused)
 
 -- no slot was refused to it
 abbrev pub IsNotBusy : {T : Type 0} → Result T ActRefused → Type 0

@@ -1,6 +1,7 @@
 pub mod Decided
 pub mod Holding
 pub mod Refusing
+pub mod Taken
 pub mod Taking
 pub mod Ready
 pub mod Asked

@@ -28,17 +28,13 @@
 
 mod acted;
 mod acting;
-mod counting;
-mod ends;
-mod giving;
-mod joins;
+mod doing;
 mod laws;
-mod lists;
-mod pools;
 mod refused;
 mod stepping;
+mod taken;
 mod taking;
-mod wholes;
+mod wanted;
 mod yields;
 
 pub use acted::Acted;

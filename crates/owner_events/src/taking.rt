@@ -1,22 +1,31 @@
-//! How an owner takes the list or the pool beside its lane, for the action before which its top thread is.
+//! How an owner takes what its event needs beside its lane: the list, and then the pool.
 
-ghost use Rattle.std.specs.Prelude.{◌≡◌, ◌+◌, ◌<◌, ℕ, IfOk};
+ghost use Rattle.std.specs.Prelude.{◌≡◌, ◌+◌, ◌<◌, ℕ, IfOk, None};
 ghost use Rattle.thread_frames.specs.declared.next.Next.{Next as AnyNext};
 ghost use Rattle.turn_table.specs.Tables.{key_of, slot_count, IsSeatOf};
 ghost use Rattle.owner_acts.specs.Passed.Taken.{its_lane, list_and_lane};
-ghost use Rattle.hall_slots.specs.Takes.{HasAllPlaces, MeetsLaw};
-ghost use Rattle.owner_events.specs.Holding.{IsBefore, IsNotBusy};
-ghost use Rattle.owner_events.specs.Taking.{AsksByTheList, IsFullBy, TakesList, TakesPool, TakesPoolToo};
 ghost use Rattle.owner_acts.specs.WithPool.{words_asked_by};
+ghost use Rattle.hall_slots.specs.Takes.{HasAllPlaces, MeetsLaw};
+ghost use Rattle.owner_events.specs.Asked.{IsAskedByAll, IsWanted, IsWantedOfList};
+ghost use Rattle.owner_events.specs.Holding.{IsBefore, IsNotBusy};
+ghost use Rattle.owner_events.specs.Ready.{IsReadyTo};
+ghost use Rattle.owner_events.specs.Taking.{IsFullBy, TakesFor, TakesList, TakesPoolToo};
+ghost use Rattle.owner_events.specs.declared.wanted.Wanted.TheVariants as wanted_by_lane;
 
-use crate::giving::{give_lane, give_list};
 use crate::refused::ActRefused;
+use crate::taken::Taken;
+use crate::wanted::{Chosen, ListWanted, Wanted, choose, wanted_by};
 use containers::Boxed;
+use depth_first_list::Quota;
 use deque_list::DequeId;
 use hall_slots::{HallPlace, HallRow, ListSlot, PoolSlot, end_of, take_list, take_pool};
 use language_limits::RECORD_WORDS;
-use owner_acts::{AtNext, Noting, put_together, return_answered, return_pool};
+use owner_acts::{
+    AtNext, Noting, WholeEvent, give_still_back, put_together, return_answered, return_list,
+    return_pool,
+};
 use play_rules::Stop;
+use thread_actions::readiness_of;
 use thread_frames::Next;
 
 /// The words that an action takes of the arena.
@@ -42,12 +51,50 @@ fn full_arena(pool: &PoolSlot, asked: u32) -> Option<Stop>
     None
 }
 
+/// Takes the pool, where there is room for the words of the action.
+///
+/// # Errors
+///
+/// Another seat holds it (never, if this one has all places), or the words do not fit the arena, which the seat notes as the stop that it found.
+/// The seat holds nothing.
+fn take_pool_for(
+    row: &HallRow,
+    seat: &mut HallPlace,
+    deque: DequeId,
+    at: AtNext,
+    next: Next,
+    charge: u32,
+) -> Result<(AtNext, Taken), ActRefused>
+    requires here { IsSeatOf row.now seat.old }
+    requires slot { deque.0 + 2 < slot_count row.now }
+    requires ready { (ready : ℕ) × IsReadyTo (key_of row.now) seat.old deque at next ready }
+    requires wanted { IsWanted (key_of row.now) seat.old.hand.note.worker at next (wanted_by_lane.Pool charge) }
+    ensures seat { TakesFor (key_of row.now) seat.old deque at next result seat.new }
+    ensures lone { HasAllPlaces (key_of row.now) seat.old → IsNotBusy result }
+{
+    let pool = match take_pool(row, seat) {
+        Ok(pool) => pool,
+        Err(held) => {
+            give_still_back(row, seat, deque, put_together(at));
+            return Err(ActRefused::Busy(held));
+        }
+    };
+    match full_arena(&pool, words_asked(next)) {
+        Some(stop) => {
+            let lane = put_together(at);
+            return_pool(row, seat, deque, pool, lane, Noting::Found(stop));
+            Err(ActRefused::Stopped(stop))
+        }
+        None => Ok((at, Taken::WithPool { pool, next, charge })),
+    }
+}
+
 /// Takes the list, in which no end is kept.
 ///
 /// # Errors
 ///
 /// Another seat holds it (never, if this one has all places), or an end is kept there, which the seat is answered. The seat holds nothing.
-pub(crate) fn take_open_list(
+fn take_open_list(
     row: &HallRow,
     seat: &mut HallPlace,
     deque: DequeId,
@@ -56,15 +103,14 @@ pub(crate) fn take_open_list(
     requires here { IsSeatOf row.now seat.old }
     requires slot { deque.0 + 2 < slot_count row.now }
     requires before { (next : AnyNext) × (ready : ℕ) × IsBefore (key_of row.now) seat.old deque (its_lane deque) at next ready }
-    ensures seat { (next : AnyNext) (ready : ℕ) → IsBefore (key_of row.now) seat.old deque (its_lane deque) at next ready
-        → TakesList (key_of row.now) seat.old deque at next ready result seat.new }
+    ensures seat { TakesList seat.old at result seat.new }
     ensures meets { IfOk result (λ _. MeetsLaw (key_of row.now) seat.new) }
     ensures lone { HasAllPlaces (key_of row.now) seat.old → IsNotBusy result }
 {
     let list = match take_list(row, seat) {
         Ok(list) => list,
         Err(held) => {
-            give_lane(row, seat, deque, at);
+            give_still_back(row, seat, deque, put_together(at));
             return Err(ActRefused::Busy(held));
         }
     };
@@ -77,70 +123,89 @@ pub(crate) fn take_open_list(
     }
 }
 
-/// Takes the pool, where there is room for the words of the action.
-///
-/// # Errors
-///
-/// Another seat holds it (never, if this one has all places), or the words do not fit the arena, which the seat notes as the stop that it found.
-/// The seat holds nothing.
-pub(crate) fn take_pool_for(
-    row: &HallRow,
-    seat: &mut HallPlace,
-    deque: DequeId,
-    at: AtNext,
-    next: Next,
-) -> Result<(AtNext, PoolSlot), ActRefused>
-    requires here { IsSeatOf row.now seat.old }
-    requires slot { deque.0 + 2 < slot_count row.now }
-    requires before { (ready : ℕ) × IsBefore (key_of row.now) seat.old deque (its_lane deque) at next ready }
-    requires asks { AsksByTheList (key_of row.now) at next }
-    ensures seat { (ready : ℕ) → IsBefore (key_of row.now) seat.old deque (its_lane deque) at next ready
-        → TakesPool (key_of row.now) seat.old deque at next ready result seat.new }
-    ensures meets { IfOk result (λ _. MeetsLaw (key_of row.now) seat.new) }
-    ensures lone { HasAllPlaces (key_of row.now) seat.old → IsNotBusy result }
-{
-    let pool = match take_pool(row, seat) {
-        Ok(pool) => pool,
-        Err(held) => {
-            give_lane(row, seat, deque, at);
-            return Err(ActRefused::Busy(held));
-        }
-    };
-    match full_arena(&pool, words_asked(next)) {
-        Some(stop) => {
-            let lane = put_together(at);
-            return_pool(row, seat, deque, pool, lane, Noting::Found(stop));
-            Err(ActRefused::Stopped(stop))
-        }
-        None => Ok((at, pool)),
-    }
-}
-
 /// Takes the pool beside the list.
 ///
 /// # Errors
 ///
 /// Another seat holds it (never, if this one has all places). The seat holds nothing.
-pub(crate) fn take_pool_too(
+fn take_pool_too(
     row: &HallRow,
     seat: &mut HallPlace,
     deque: DequeId,
     at: AtNext,
     list: Boxed<ListSlot>,
-) -> Result<(AtNext, Boxed<ListSlot>, PoolSlot), ActRefused>
+    event: WholeEvent,
+) -> Result<(AtNext, Taken), ActRefused>
     requires here { IsSeatOf row.now seat.old }
     requires slot { deque.0 + 2 < slot_count row.now }
     requires before { (next : AnyNext) × (ready : ℕ) × IsBefore (key_of row.now) seat.old deque (list_and_lane deque list) at next ready }
-    ensures seat { (next : AnyNext) (ready : ℕ) → IsBefore (key_of row.now) seat.old deque (list_and_lane deque list) at next ready
-        → TakesPoolToo (key_of row.now) seat.old deque at next ready list result seat.new }
-    ensures meets { IfOk result (λ _. MeetsLaw (key_of row.now) seat.new) }
+    ensures seat { TakesPoolToo (key_of row.now) seat.old at list event result seat.new }
     ensures lone { HasAllPlaces (key_of row.now) seat.old → IsNotBusy result }
 {
     match take_pool(row, seat) {
-        Ok(pool) => Ok((at, list, pool)),
+        Ok(pool) => Ok((at, Taken::WithAll { list, pool, event })),
         Err(held) => {
-            give_list(row, seat, deque, at, list, Noting::Same);
+            let lane = put_together(at);
+            return_list(row, seat, deque, list, lane, Noting::Same);
             Err(ActRefused::Busy(held))
         }
+    }
+}
+
+/// Takes the list, chooses the event by what is kept there, and takes the pool if this needs it.
+///
+/// # Errors
+///
+/// Another seat holds one of them (never, if this one has all places), or an end is kept in the list. The seat holds nothing.
+fn take_list_for(
+    row: &HallRow,
+    seat: &mut HallPlace,
+    deque: DequeId,
+    at: AtNext,
+    next: Next,
+    wanted: ListWanted,
+) -> Result<(AtNext, Taken), ActRefused>
+    requires here { IsSeatOf row.now seat.old }
+    requires slot { deque.0 + 2 < slot_count row.now }
+    requires ready { (ready : ℕ) × IsReadyTo (key_of row.now) seat.old deque at next ready }
+    requires wanted { IsWantedOfList (key_of row.now) at next wanted }
+    ensures seat { TakesFor (key_of row.now) seat.old deque at next result seat.new }
+    ensures lone { HasAllPlaces (key_of row.now) seat.old → IsNotBusy result }
+{
+    // For the prover alone: clauses name this parameter.
+    let _next = next;
+    let (at, list) = take_open_list(row, seat, deque, at)?;
+    match choose(&at, &list, wanted) {
+        Chosen::Alone(event) => Ok((at, Taken::WithList { list, event })),
+        Chosen::Beside(event) => take_pool_too(row, seat, deque, at, list, event),
+    }
+}
+
+/// Takes what the event needs for which the next action asks.
+///
+/// # Errors
+///
+/// Another seat holds a slot that the event needs (never, if this one has all places), an end is kept in the list that it needs, or the words of
+/// the action do not fit the arena. The seat holds nothing.
+pub(crate) fn take_for(
+    row: &HallRow,
+    seat: &mut HallPlace,
+    deque: DequeId,
+    quota: Quota,
+    at: AtNext,
+    next: Next,
+) -> Result<(AtNext, Taken), ActRefused>
+    requires here { IsSeatOf row.now seat.old }
+    requires slot { deque.0 + 2 < slot_count row.now }
+    requires quota { (key_of row.now).quota ≡ quota }
+    requires ready { (ready : ℕ) × IsReadyTo (key_of row.now) seat.old deque at next ready }
+    ensures seat { TakesFor (key_of row.now) seat.old deque at next result seat.new }
+    ensures lone { HasAllPlaces (key_of row.now) seat.old → IsNotBusy result }
+{
+    let readiness = readiness_of(&at.running.period, &at.top, next, quota);
+    match wanted_by(&at, next, readiness) {
+        Wanted::Lane { child } => Ok((at, Taken::OnLane { child })),
+        Wanted::Pool { charge } => take_pool_for(row, seat, deque, at, next, charge),
+        Wanted::List(wanted) => take_list_for(row, seat, deque, at, next, wanted),
     }
 }

@@ -1,12 +1,12 @@
-use Rattle.std.proofs.Common.{◌+◌, ◌∙◌, inl, sym, subst}
+use Rattle.std.proofs.Common.{◌+◌, [], ◌∷◌, inl, sym, subst}
 use Rattle.std.specs.Prelude.{Err}
 use Rattle.containers.specs.BoundedList.{spare}
 use Rattle.turn_table.specs.Tables.{key_of}
 use Rattle.hall_slots.specs.declared.slot.Slot.TheVariants as slots
-use Rattle.owner_acts.specs.Passed.Advancing.{HasCome}
+use Rattle.owner_acts.specs.Passed.Advancing.{HasCome, took_lane}
 use Rattle.owner_acts.specs.Passed.AdvanceRefused.{AdvanceRefused}
 use Rattle.owner_events.proofs.Following.{all_too}
-use Rattle.owner_events.proofs.Doing.{here_too}
+use Rattle.owner_events.proofs.Ending.{here_too}
 use Rattle.owner_events.proofs.Called.{acts, refused_lane, short_of_action}
 use Rattle.owner_events.proofs.Deciding as deciding
 use Rattle.owner_events.specs.Acting.{AtLane}
@@ -21,7 +21,7 @@ go_on-requires-clause-here c = here_too c.args.row.now c.args.seat.now c.come_to
 pub go_on-requires-clause-ready : goal.go_on-requires-clause-ready
 go_on-requires-clause-ready c =
     deciding.ready_to (key_of c.args.row.now) c.args.seat.now c.come_to_next.new.seat c.args.deque c.in-Ok.ensures.seat.0 c.in-Ok.at c.in-Ok.next
-    c.come_to_next.new.memory c.requires.may c.in-Ok.ensures.seat.1 c.in-Ok.ensures.seat.2 c.in-Ok.ensures.meets (c.in-Ok.ensures.births ∙ c.requires.births)
+    (spare c.come_to_next.new.memory.births) c.requires.may c.in-Ok.ensures.seat.1 c.in-Ok.ensures.seat.2 c.in-Ok.ensures.meets
 
 pub returns-in-Ok-clause-seat : goal.returns-in-Ok-clause-seat
 returns-in-Ok-clause-seat c =
@@ -30,7 +30,8 @@ returns-in-Ok-clause-seat c =
 
 pub returns-in-Ok-clause-lone : goal.returns-in-Ok-clause-lone
 returns-in-Ok-clause-lone c all =
-    c.go_on.ensures.lone (all_too c.args.seat.now c.come_to_next.new.seat (c.args.deque.0 + 2) (slots.Lane c.in-Ok.ensures.seat.0) c.in-Ok.ensures.seat.1
+    c.go_on.ensures.lone (all_too c.args.seat.now c.come_to_next.new.seat ((c.args.deque.0 + 2, slots.Lane c.in-Ok.ensures.seat.0) ∷ c.args.seat.now.hand.holds)
+    (took_lane c.args.deque c.in-Ok.ensures.seat.0 ∷ []) c.in-Ok.ensures.seat.1
     (key_of c.args.row.now) all)
 
 pub returns-in-Err-Busy-clause-seat : goal.returns-in-Err-Busy-clause-seat

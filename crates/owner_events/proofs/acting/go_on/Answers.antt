@@ -1,49 +1,27 @@
-use Rattle.std.proofs.Common.{sym, subst}
+use Rattle.containers.specs.BoundedList.{spare}
 use Rattle.turn_table.specs.Tables.{key_of}
 use Rattle.owner_events.specs.Acting.{Does}
-use Rattle.owner_events.proofs.Deciding as deciding
-use Rattle.owner_events.proofs.Showing.{is_spent}
-use Rattle.owner_events.specs.Ready.{IsReadyTo}
-use Rattle.thread_actions.specs.Readiness.{IsReadiness}
-use Rattle.thread_actions.specs.declared.readiness.Readiness.TheVariants.{Ready, Spent, Missing}
-use Rattle.hall_slots.specs.Keys.{quota_of}
-use Rattle.depth_first_list.specs.QuotaWords.{quota_words}
+use Rattle.owner_events.proofs.Ending.{exit, here_too}
+use Rattle.owner_events.proofs.Going.{does, ready_for}
 use Rattle.owner_events.proofs.acting.go_on.Goals as goal
 
-pub do_next-requires-clause-uses : goal.do_next-requires-clause-uses
-do_next-requires-clause-uses c =
-    subst (λ k. IsReadiness c.args.at.running.period.used (quota_words k) c.args.at.top c.args.next (Ready c.in-Ready.charge)) (sym c.requires.quota)
-    c.in-Ready.ensures
+pub returns-in_err-at-clause-seat : goal.returns-in_err-at-clause-seat
+returns-in_err-at-clause-seat c = exit (λ r. Does (key_of c.args.row.now) c.args.seat.now c.args.deque c.args.at c.args.next r c.take_for.new.seat)
+    c.from_residual.result c.in_err-at.field-0.0 c.from_residual.ensures.1 c.in_err-at.ensures.seat
 
-pub take_list_and_do-requires-clause-ready : goal.take_list_and_do-requires-clause-ready
-take_list_and_do-requires-clause-ready c = (
+pub do_event-requires-clause-here : goal.do_event-requires-clause-here
+do_event-requires-clause-here c = here_too c.args.row.now c.args.seat.now c.take_for.new.seat c.in_ok-at.ensures.seat.1.took c.requires.here
+
+pub do_event-requires-clause-ready : goal.do_event-requires-clause-ready
+do_event-requires-clause-ready c = let takes = c.in_ok-at.ensures.seat in (
   c.args.next,
-  c.requires.ready,
-  is_spent (key_of c.args.row.now) c.args.at c.args.next
-      (subst (λ k. IsReadiness c.args.at.running.period.used (quota_words k) c.args.at.top c.args.next Spent) (sym c.requires.quota) c.in-Spent.ensures),
+  ready_for (key_of c.args.row.now) c.args.seat.now c.take_for.new.seat c.args.deque c.args.at c.in_ok-at.at c.args.next (spare c.args.memory.now.births)
+      c.in_ok-at.taken takes.0 takes.1 c.requires.ready.before,
 )
 
-pub join_missing-requires-clause-ready : goal.join_missing-requires-clause-ready
-join_missing-requires-clause-ready c =
-    subst (λ n. IsReadyTo (key_of c.args.row.now) c.args.seat.now c.args.deque c.args.at n c.args.memory.now)
-    (deciding.missing_is c.args.at.running.period.used (quota_of (key_of c.args.row.now)) c.args.at.top c.args.next c.in-Missing.child
-    (subst (λ k. IsReadiness c.args.at.running.period.used (quota_words k) c.args.at.top c.args.next (Missing c.in-Missing.child)) (sym c.requires.quota)
-    c.in-Missing.ensures)).0 c.requires.ready
-
-pub join_missing-requires-clause-missing : goal.join_missing-requires-clause-missing
-join_missing-requires-clause-missing c =
-    (deciding.missing_is c.args.at.running.period.used (quota_of (key_of c.args.row.now)) c.args.at.top c.args.next c.in-Missing.child
-    (subst (λ k. IsReadiness c.args.at.running.period.used (quota_words k) c.args.at.top c.args.next (Missing c.in-Missing.child)) (sym c.requires.quota)
-    c.in-Missing.ensures)).1
-
-pub returns-in-Missing-clause-seat : goal.returns-in-Missing-clause-seat
-returns-in-Missing-clause-seat c =
-    subst (λ n. Does (key_of c.args.row.now) c.args.seat.now c.args.deque c.args.at n c.join_missing.result c.join_missing.new.seat)
-    (sym (deciding.missing_is c.args.at.running.period.used (quota_of (key_of c.args.row.now)) c.args.at.top c.args.next c.in-Missing.child
-    (subst (λ k. IsReadiness c.args.at.running.period.used (quota_words k) c.args.at.top c.args.next (Missing c.in-Missing.child)) (sym c.requires.quota)
-    c.in-Missing.ensures)).0) c.join_missing.ensures.seat
-
-pub returns-in-Spent-clause-seat : goal.returns-in-Spent-clause-seat
-returns-in-Spent-clause-seat c = c.take_list_and_do.ensures.seat c.args.next c.requires.ready
-    (is_spent (key_of c.args.row.now) c.args.at c.args.next
-    (subst (λ k. IsReadiness c.args.at.running.period.used (quota_words k) c.args.at.top c.args.next Spent) (sym c.requires.quota) c.in-Spent.ensures))
+pub returns-clause-seat : goal.returns-clause-seat
+returns-clause-seat c = let takes = c.in_ok-at.ensures.seat in
+    does (key_of c.args.row.now) c.args.seat.now c.take_for.new.seat c.args.deque c.args.at c.in_ok-at.at c.args.next (spare c.args.memory.now.births)
+    c.in_ok-at.taken takes.0 takes.1 c.do_event.result c.do_event.new.seat
+    (c.do_event.ensures.seat c.args.next (ready_for (key_of c.args.row.now) c.args.seat.now c.take_for.new.seat c.args.deque c.args.at c.in_ok-at.at c.args.next
+    (spare c.args.memory.now.births) c.in_ok-at.taken takes.0 takes.1 c.requires.ready.before))
