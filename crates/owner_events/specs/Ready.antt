@@ -2,6 +2,7 @@
 use Rattle.std.specs.Prelude.{◌≡◌, ℕ, ◌+◌, ◌≤◌, Some, IsTrue}
 use Rattle.dag_order.specs.declared.thread_id.ThreadId.{ThreadId}
 use Rattle.deque_list.specs.declared.deque_id.DequeId.{DequeId}
+use Rattle.hall_slots.specs.Keys.{quota_of}
 use Rattle.hall_slots.specs.Takes.{HallSeat, MeetsLaw}
 use Rattle.hall_slots.specs.declared.key.HallKey.{HallKey}
 use Rattle.hall_slots.specs.declared.pool_slot.PoolSlot.{PoolSlot}
@@ -14,10 +15,13 @@ use Rattle.owner_acts.specs.Ready.{IsReady, IsReadyWithPool, PoolIsReady}
 use Rattle.owner_acts.specs.WithAll.{IsReadyForAll}
 use Rattle.owner_acts.specs.WithList.{IsReadyForList}
 use Rattle.owner_acts.specs.WithPool.{IsWithPool, words_asked_by}
-use Rattle.owner_events.specs.Asked.{IsAskedFor}
+use Rattle.owner_events.specs.Asked.{IsAskedFor, IsWanted}
 use Rattle.owner_events.specs.Holding.{IsBefore}
 use Rattle.owner_events.specs.Taken.{slots_of}
 use Rattle.owner_events.specs.declared.taken.Taken.{Taken}
+use Rattle.owner_events.specs.declared.wanted.Wanted.{Wanted}
+use Rattle.thread_actions.specs.Readiness.{IsReadiness}
+use Rattle.thread_actions.specs.declared.readiness.Readiness.{Readiness}
 use Rattle.owner_events.specs.declared.taken.Taken.TheVariants.{OnLane, WithPool, WithList, WithAll}
 use Rattle.thread_frames.specs.Actions.{IsJoin, is_there}
 use Rattle.thread_frames.specs.Views.{children_of, join_words_of, newest, next_of}
@@ -28,6 +32,15 @@ use Rattle.thread_frames.specs.declared.next.Next.TheVariants as nexts
 pub record IsReadyTo (key : HallKey) (seat : HallSeat) (deque : DequeId) (at : AtNext) (next : Next) (ready : ℕ) : Type 0 where
   pub before : IsBefore key seat deque (its_lane deque) at next ready
   pub meets : MeetsLaw key seat
+
+-- Such a seat may be there, whose period says this of the action; and for each such seat this is what it asks for.
+abbrev pub MayWant : AtNext → Next → Readiness → Type 0
+MayWant at next readiness = (key : HallKey) × (seat : HallSeat) × (deque : DequeId) × (ready : ℕ) × IsReadyTo key seat deque at next ready
+    × IsReadiness at.running.period.used (quota_of key) at.top next readiness
+
+abbrev pub Wants : AtNext → Next → Readiness → Wanted → Type 0
+Wants at next readiness wanted = (key : HallKey) (seat : HallSeat) (deque : DequeId) (ready : ℕ) → IsReadyTo key seat deque at next ready
+    → IsReadiness at.running.period.used (quota_of key) at.top next readiness → IsWanted key seat.hand.note.worker at next wanted
 
 -- It took what the event needs for which the action asks.
 pub record IsReadyFor (key : HallKey) (seat : HallSeat) (deque : DequeId) (at : AtNext) (next : Next) (ready : ℕ) (taken : Taken) : Type 0 where

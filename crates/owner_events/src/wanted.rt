@@ -1,10 +1,7 @@
 //! What the next action of an owner asks for: by its lane, and by the list if it has to see this.
 
-ghost use Rattle.std.specs.Prelude.{◌≡◌, ◌<◌, [], ℕ, false, length, IsTrue, IsSome, ◌↔◌};
-ghost use Rattle.hall_slots.specs.Keys.{quota_of};
-ghost use Rattle.hall_slots.specs.Takes.{HallSeat};
+ghost use Rattle.std.specs.Prelude.{◌≡◌, ◌<◌, [], false, length, IsTrue, IsSome, ◌↔◌};
 ghost use Rattle.hall_slots.specs.declared.key.HallKey.{HallKey};
-ghost use Rattle.thread_actions.specs.Readiness.{IsReadiness};
 ghost use Rattle.thread_actions.specs.declared.readiness.Readiness.TheVariants.{Ready};
 ghost use Rattle.thread_frames.specs.Actions.{is_there};
 ghost use Rattle.thread_frames.specs.Views.{children_of, label_of, newest};
@@ -12,8 +9,8 @@ ghost use Rattle.thread_frames.specs.declared.next.Next.{Next as AnyNext};
 ghost use Rattle.thread_frames.specs.declared.next.Next.TheVariants as nexts;
 ghost use Rattle.thread_frames.specs.declared.thread.Thread.{Thread as AnyThread};
 ghost use Rattle.thread_map.specs.Kept.{kept_under};
-ghost use Rattle.owner_events.specs.Asked.{IsChosen, IsKeptFor, IsWanted, IsWantedOfList};
-ghost use Rattle.owner_events.specs.Ready.{IsReadyTo};
+ghost use Rattle.owner_events.specs.Asked.{IsChosen, IsKeptFor, IsWantedOfList};
+ghost use Rattle.owner_events.specs.Ready.{MayWant, Wants};
 ghost use Rattle.owner_events.specs.declared.wanted.ListWanted.TheVariants as listed;
 
 use containers::Boxed;
@@ -60,9 +57,7 @@ pub(crate) enum Chosen {
 /// What a Join asks for whose result was handed over.
 fn join_wanted(at: &AtNext, child: ThreadId, charge: u32) -> Wanted
     requires { IsTrue (is_there (newest (children_of at.now.top))) }
-    ensures { (key : HallKey) (seat : HallSeat) (deque : DequeId) (ready : ℕ) → IsReadyTo key seat deque at.now (nexts.Join child) ready
-        → IsReadiness at.now.running.period.used (quota_of key) at.now.top (nexts.Join child) (Ready charge)
-        → IsWanted key seat.hand.note.worker at.now (nexts.Join child) result }
+    ensures { Wants at.now (nexts.Join child) (Ready charge) result }
 {
     if at.top.get().join_releases() > 0 {
         return Wanted::Pool { charge };
@@ -72,9 +67,7 @@ fn join_wanted(at: &AtNext, child: ThreadId, charge: u32) -> Wanted
 
 /// What an End asks for.
 fn end_wanted(at: &AtNext, charge: u32) -> Wanted
-    ensures { (key : HallKey) (seat : HallSeat) (deque : DequeId) (ready : ℕ) → IsReadyTo key seat deque at.now nexts.End ready
-        → IsReadiness at.now.running.period.used (quota_of key) at.now.top nexts.End (Ready charge)
-        → IsWanted key seat.hand.note.worker at.now nexts.End result }
+    ensures { Wants at.now nexts.End (Ready charge) result }
 {
     if at.lane.len() > 0 {
         return Wanted::Pool { charge };
@@ -84,11 +77,8 @@ fn end_wanted(at: &AtNext, charge: u32) -> Wanted
 
 /// What an action asks for that the period may do.
 fn ready_wanted(at: &AtNext, next: Next, charge: u32) -> Wanted
-    requires { (key : HallKey) × (seat : HallSeat) × (deque : DequeId) × (ready : ℕ) × IsReadyTo key seat deque at.now next ready
-        × IsReadiness at.now.running.period.used (quota_of key) at.now.top next (Ready charge) }
-    ensures { (key : HallKey) (seat : HallSeat) (deque : DequeId) (ready : ℕ) → IsReadyTo key seat deque at.now next ready
-        → IsReadiness at.now.running.period.used (quota_of key) at.now.top next (Ready charge)
-        → IsWanted key seat.hand.note.worker at.now next result }
+    requires { MayWant at.now next (Ready charge) }
+    ensures { Wants at.now next (Ready charge) result }
 {
     match next {
         Next::Fork => Wanted::Pool { charge },
@@ -103,11 +93,8 @@ fn ready_wanted(at: &AtNext, next: Next, charge: u32) -> Wanted
 
 /// What the next action asks for, by what the period says of it.
 pub(crate) fn wanted_by(at: &AtNext, next: Next, readiness: Readiness) -> Wanted
-    requires { (key : HallKey) × (seat : HallSeat) × (deque : DequeId) × (ready : ℕ) × IsReadyTo key seat deque at.now next ready
-        × IsReadiness at.now.running.period.used (quota_of key) at.now.top next readiness }
-    ensures { (key : HallKey) (seat : HallSeat) (deque : DequeId) (ready : ℕ) → IsReadyTo key seat deque at.now next ready
-        → IsReadiness at.now.running.period.used (quota_of key) at.now.top next readiness
-        → IsWanted key seat.hand.note.worker at.now next result }
+    requires { MayWant at.now next readiness }
+    ensures { Wants at.now next readiness result }
 {
     match readiness {
         Readiness::Ready { charge } => ready_wanted(at, next, charge),
