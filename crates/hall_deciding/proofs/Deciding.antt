@@ -33,7 +33,7 @@ use Rattle.hall_deciding.specs.EventParts.{MayGoOn}
 use Rattle.hall_deciding.specs.Puts.{note_of}
 use Rattle.hall_deciding.specs.Writing.{in_order, at_work_there, WritesEvent, Writes, DoesEvent, is_counted, counts, EventsMayCome}
 use Rattle.hall_deciding.specs.declared.noting.Noting.{Noting}
-use Rattle.hall_deciding.specs.declared.noting.Noting.TheVariants.{Same, Found, Does, Yields}
+use Rattle.hall_deciding.specs.declared.noting.Noting.TheVariants.{Same, Found, Does, Yields, Leaves, Closes, Halts}
 use Rattle.hall_deciding.proofs.Working.{some, work, here, viewed}
 
 plus_zero : (n : ℕ) → n + 0 ≡ n
@@ -47,7 +47,7 @@ module _ (key : HallKey) (seat : HallSeat) (deque : DequeId) (quota : record_wor
   v = view_of seat.hand.note
 
   -- The seat is in a running state with this hall, once it notes this.
-  abbrev RunsWith : Hall → SeatNote → Type 0
+  abbrev pub RunsWith : Hall → SeatNote → Type 0
   RunsWith after note =
       IsRunning (machine_of c (terms_of key)) (Terms.limits (terms_of key)) after count (slice_set views seat.number (view_of note))
 
@@ -63,7 +63,7 @@ module _ (key : HallKey) (seat : HallSeat) (deque : DequeId) (quota : record_wor
         (record { live = refl; begun = sym (plus_zero h.list.begun); moves = refl }) run.3.stands.shape.lanes
         (record { places = refl; crew = refl; kept = refl; periods = λ id worker owned. refl })
 
-    leads_on : (after : Hall) (step : Step) (view : View) (note : SeatNote) → view ≡ view_of note
+    pub leads_on : (after : Hall) (step : Step) (view : View) (note : SeatNote) → view ≡ view_of note
         → IsEvent (machine_of c (terms_of key)) (seen now count views) step (seen after count (slice_set views seat.number view))
         → RunsWith after note
     leads_on after step view note same event =
@@ -110,6 +110,9 @@ module _ (key : HallKey) (seat : HallSeat) (deque : DequeId) (quota : record_wor
           (subst (λ (a : Hall). IsEvent (machine_of c (terms_of key)) (seen now count views) (step_of w seat.number machine.gives_up (gave_up w.id.0))
           (seen a count (slice_set views seat.number (after_event v None (gave_up w.id.0) true)))) (sym wrote.1)
           (gives_up_freely seat.number v w (here key seat deque goes c h count views run its) counting))
+      noting_leads_on (Leaves id) counting wrote = absurd wrote
+      noting_leads_on (Closes id end) counting wrote = absurd wrote
+      noting_leads_on (Halts stop end) counting wrote = absurd wrote
 
   event_comes : (was now : Parts) (noting : Noting) → seat.hand.note.counting ≡ counts noting
       → DoesEvent key seat.hand.note.worker deque was now noting → h.list ≡ list_shown was.list → h.pool ≡ pool_shown was.pool

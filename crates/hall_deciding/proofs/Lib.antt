@@ -1,6 +1,6 @@
 pub mod Owned
 pub mod There
-mod Sound
+pub mod Sound
 pub mod Holding
 pub mod Putting
 pub mod Working
@@ -15,4 +15,5 @@ pub mod Staying
 pub mod Taken
 pub mod Noted
 mod Still
+pub mod Leaving
 pub mod Passed

@@ -17,7 +17,7 @@ use Rattle.hall_deciding.specs.Staying.{NotesOn, AllAtPoints, StaysSoundPool}
 use Rattle.hall_deciding.specs.Taken.{its_lane, pool_and_lane, list_and_lane, all_three}
 use Rattle.hall_deciding.specs.Writing.{DoesEvent, counts}
 use Rattle.hall_deciding.specs.declared.noting.Noting.{Noting}
-use Rattle.hall_deciding.specs.declared.noting.Noting.TheVariants.{Same, Found, Does, Yields}
+use Rattle.hall_deciding.specs.declared.noting.Noting.TheVariants.{Same, Found, Does, Yields, Leaves, Closes, Halts}
 use Rattle.hall_deciding.proofs.Deciding.{events_may_come}
 use Rattle.hall_deciding.proofs.Staying.{all_at, lanes_stay_sound}
 use Rattle.hall_deciding.proofs.Taken.{owner_of}
@@ -35,6 +35,9 @@ module _ (key : HallKey) (seat : HallSeat) (deque : DequeId) (noting : Noting) (
   placed_by (Found stop) = goes.placed
   placed_by (Does event owned) = goes.placed
   placed_by (Yields id) = goes.placed
+  placed_by (Leaves id) = goes.placed
+  placed_by (Closes id end) = goes.placed
+  placed_by (Halts stop end) = goes.placed
 
   writes : (was now : Parts) → Does_it was now → StaySound key seat deque was now note → MayWrite key seat deque was now note
   writes was now does sound = record { goes_on = events_may_come key seat deque was now noting quota goes counting does; sound = sound }

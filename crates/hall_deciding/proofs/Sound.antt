@@ -1,5 +1,5 @@
 -- Parts in the slots of a hall stay sound where a seat has written the list, the pool and the lane of its deque.
-use Rattle.std.proofs.Common.{◌≡◌, ◌≢◌, ℕ, suc, List, [], ◌∷◌, map, set, inl, inr, refl, sym, ap, ◌∙◌, subst, arith}
+use Rattle.std.proofs.Common.{◌≡◌, ◌≢◌, ℕ, suc, false, List, [], ◌∷◌, map, set, inl, inr, refl, sym, ap, ◌∙◌, subst, arith}
 use Rattle.std.proofs.lemmas.Bool.{cases_eq}
 use Rattle.std.proofs.lemmas.Option.{same_Some, none-some}
 use Rattle.std.specs.Option.{option_map}
@@ -15,6 +15,8 @@ use Rattle.deque_list.specs.Ids.{deque_id}
 use Rattle.hall_slots.specs.Passed.Roots.{end_of_root}
 use Rattle.play_rules.specs.declared.ends.RunEnd.{RunEnd}
 use Rattle.play_rules.specs.declared.ends.RunEnd.TheVariants.{Finished}
+use Rattle.play_rules.specs.declared.stop.Stop.{Stop}
+use Rattle.play_rules.specs.declared.stop.Stop.TheVariants.{ArenaFull, DequesFull, StepsSpent, OutOfMemory}
 use Rattle.hall_slots.specs.Passed.Lists.{Among, Each}
 use Rattle.hall_slots.proofs.Passed.DequeMachineLists.{each_from, each_among, each_at, among_middle, among_wider}
 use Rattle.hall_slots.proofs.Passed.OpenPeriodsLists.{set_same, set_other}
@@ -22,7 +24,7 @@ use Rattle.thread_map.specs.Kept.{kept_under}
 use Rattle.hall_slots.specs.Passed.ThreadFramesPoints.{IsAtPoint}
 use Rattle.hall_slots.specs.Passed.Thread.{Thread}
 use Rattle.hall_slots.specs.Passed.HallMachineViews.{View}
-use Rattle.hall_slots.specs.Passed.Values.{no_memory}
+use Rattle.hall_slots.specs.Passed.Values.{Stop as HallStop, by_rule, no_memory}
 use Rattle.hall_slots.specs.Passed.Writing.{lane_slot, place_of}
 use Rattle.hall_slots.specs.Passed.HallMachinePoints.{IsExcused, LaneAtPoints, AreAtPoints}
 use Rattle.hall_slots.proofs.Passed.Points.{excuses_stay}
@@ -41,13 +43,25 @@ use Rattle.hall_slots.proofs.Reading.{at_of_get, get_of_at, IfList, IfPool, IfLa
 use Rattle.hall_deciding.specs.Writes.{Parts, slots_with, AreIn, IsOwner, IsShort, BecomesOf, stays, loses_owner, goes, StaySound}
 use Rattle.hall_deciding.proofs.Owned.{is_listed, is_its, is_open}
 
+-- who shows lack of memory found it
+abbrev is_no_memory : HallStop → Type 0
+is_no_memory (by_rule stop) = ⊥
+is_no_memory no_memory = Unit {0}
+
+pub shown_memory : (found : Option Stop) → option_map stop_shown found ≡ Some no_memory → found ≡ Some OutOfMemory
+shown_memory None is = absurd (none-some no_memory is)
+shown_memory (Some (ArenaFull live asked)) is = absurd (subst is_no_memory (sym (same_Some (stop_shown (ArenaFull live asked)) no_memory is)) tt)
+shown_memory (Some (DequesFull deques)) is = absurd (subst is_no_memory (sym (same_Some (stop_shown (DequesFull deques)) no_memory is)) tt)
+shown_memory (Some (StepsSpent limit)) is = absurd (subst is_no_memory (sym (same_Some (stop_shown (StepsSpent limit)) no_memory is)) tt)
+shown_memory (Some OutOfMemory) is = refl
+
 -- what is kept stays shown
 kept_shown : {A B : Type 0} (f : A → B) (o now : Option A) → ((x : A) → o ≡ Some x → now ≡ Some x) → (y : B) → option_map f o ≡ Some y → option_map f now ≡ Some y
 kept_shown f None now keeps y is = absurd (none-some y is)
 kept_shown f (Some x) now keeps y is = ap (option_map f) (keeps x refl) ∙ is
 
 module _ {T : Type 0} (At : T → Type 0) where
-  lane_excused : (Before Now : Type 0) → (Before → Now) → (threads : List T) → LaneAtPoints At Before threads → LaneAtPoints At Now threads
+  pub lane_excused : (Before Now : Type 0) → (Before → Now) → (threads : List T) → LaneAtPoints At Before threads → LaneAtPoints At Now threads
   lane_excused Before Now f [] at = tt
   lane_excused Before Now f (top ∷ under) at = (elim at.0 [ inl here ↦ inl here | inr excused ↦ inr (f excused) ], at.1)
 
@@ -141,12 +155,16 @@ module _ (key : HallKey) (shown : List Slot) (count : ℕ) (notes : List SeatNot
   its_owner : (place : Place) → Among place were → place.id.0 ≡ deque.0 → place.owner ≡ Some seat.hand.note.worker
   its_owner place there same = is_its key shown count notes holds seat.number seat.hand.note mine its.placed deque its.owns was.list at.list place there same
 
+  -- a seat that found lack of memory is in still
+  still_in : seat.hand.note.left ≡ false → seat.hand.note.found ≡ Some OutOfMemory → note.left ≡ false
+  still_in left memory = elim stay.left [ inl same ↦ same ∙ left | inr calm ↦ absurd (calm memory) ]
+
   excused_now : (owner : Option ℕ) → IsExcused (map view_of notes) (option_map end_shown was.list.end) owner
       → IsExcused (map view_of notes_now) (option_map end_shown now.list.end) owner
   excused_now owner excused = subst (λ (vs : List View). IsExcused vs (option_map end_shown now.list.end) owner) (sym (map-set view_of notes seat.number note))
       (excuses_stay (map view_of notes) seat.number (view_of seat.hand.note) (view_of note) (option_map end_shown was.list.end) (option_map end_shown now.list.end) owner
       (noted_at notes seat.number seat.hand.note mine) stay.worker
-      (λ left memory. (stay.left ∙ left, kept_shown stop_shown seat.hand.note.found note.found stay.found no_memory memory))
+      (λ left memory. (still_in left (shown_memory seat.hand.note.found memory), kept_shown stop_shown seat.hand.note.found note.found stay.found no_memory memory))
       (kept_shown end_shown was.list.end now.list.end stay.ends) excused)
 
   its_note : get_elem? notes_now seat.number ≡ some note
@@ -210,9 +228,12 @@ module _ (key : HallKey) (shown : List Slot) (count : ℕ) (notes : List SeatNot
 
   answered_now : (i : ℕ) (m : SeatNote) (end : RunEnd) → slice_get notes_now i ≡ Some m → m.answered ≡ Some end → now.list.end ≡ Some end
   answered_now i m end there is = elim (cases_eq i seat.number) [
-    | inl same ↦ stay.ends end (EndIsSound.answered (holds.parts.end was.list first) seat.number seat.hand.note end (get_of_at notes seat.number seat.hand.note mine)
-        (sym stay.answered ∙ ap (λ (n : SeatNote). n.answered) (same_Some note m
-        (sym (set_same notes seat.number note seat.hand.note (get_of_at notes seat.number seat.hand.note mine)) ∙ ap (slice_get notes_now) (sym same) ∙ there)) ∙ is))
+    | inl same ↦ elim (stay.answered end (ap (λ (n : SeatNote). n.answered) (same_Some note m
+        (sym (set_same notes seat.number note seat.hand.note (get_of_at notes seat.number seat.hand.note mine)) ∙ ap (slice_get notes_now) (sym same) ∙ there)) ∙ is)) [
+          | inl before ↦ stay.ends end (EndIsSound.answered (holds.parts.end was.list first) seat.number seat.hand.note end
+              (get_of_at notes seat.number seat.hand.note mine) before)
+          | inr kept ↦ kept
+        ]
     | inr other ↦ stay.ends end (EndIsSound.answered (holds.parts.end was.list first) i m end (sym (set_other notes seat.number i note other) ∙ there) is)
   ]
 

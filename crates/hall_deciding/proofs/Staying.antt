@@ -44,8 +44,8 @@ lanes_stay_sound key seat deque list pool_was pool lane_was lane note on in_pool
   ends = λ end is. is;
   finished = λ finish is. inl is;
   worker = on.worker;
-  left = on.left;
-  answered = on.answered;
+  left = inl on.left;
+  answered = λ e is. inl (sym on.answered ∙ is);
   found = on.found;
 }
 
@@ -64,8 +64,8 @@ given_up_stays_sound key seat deque list_was list pool lane_was lane note owner 
   ends = λ end is. rest.end ∙ is;
   finished = λ finish is. inl (sym rest.end ∙ is);
   worker = on.worker;
-  left = on.left;
-  answered = on.answered;
+  left = inl on.left;
+  answered = λ e is. inl (sym on.answered ∙ is);
   found = on.found;
 }
 
@@ -85,8 +85,8 @@ suspended_stays_sound key seat deque list_was list pool lane_was lane note owner
   ends = λ end is. rest.end ∙ is;
   finished = λ finish is. inl (sym rest.end ∙ is);
   worker = on.worker;
-  left = on.left;
-  answered = on.answered;
+  left = inl on.left;
+  answered = λ e is. inl (sym on.answered ∙ is);
   found = on.found;
 }
 
@@ -105,8 +105,8 @@ left_stays_sound key seat deque list_was list pool_was pool lane_was lane note o
   ends = λ end is. rest.end ∙ is;
   finished = λ finish is. inl (sym rest.end ∙ is);
   worker = on.worker;
-  left = on.left;
-  answered = on.answered;
+  left = inl on.left;
+  answered = λ e is. inl (sym on.answered ∙ is);
   found = on.found;
 }
 
@@ -121,8 +121,8 @@ root_stays_sound key seat deque list_was list pool lane_was lane note owner ende
       ends = λ end is. absurd (none-some end (sym none ∙ is));
       finished = λ other is. inr (ap end_of_root under ∙ ends ∙ is);
       worker = on.worker;
-      left = on.left;
-      answered = on.answered;
+      left = inl on.left;
+      answered = λ e is. inl (sym on.answered ∙ is);
       found = on.found;
     }
 
@@ -142,8 +142,8 @@ woken_stays_sound key seat deque list_was list pool_was pool lane_was lane note 
   ends = λ end is. rest.end ∙ is;
   finished = λ finish is. inl (sym rest.end ∙ is);
   worker = on.worker;
-  left = on.left;
-  answered = on.answered;
+  left = inl on.left;
+  answered = λ e is. inl (sym on.answered ∙ is);
   found = on.found;
 }
 
@@ -162,7 +162,7 @@ handed_stays_sound key seat deque list_was list pool_was pool lane_was lane note
   ends = λ end is. rest.end ∙ is;
   finished = λ finish is. inl (sym rest.end ∙ is);
   worker = on.worker;
-  left = on.left;
-  answered = on.answered;
+  left = inl on.left;
+  answered = λ e is. inl (sym on.answered ∙ is);
   found = on.found;
 }

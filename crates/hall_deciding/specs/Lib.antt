@@ -7,4 +7,5 @@ pub mod Rooms
 pub mod Taken
 pub mod Own
 pub mod Writing
+pub mod Leaving
 pub mod Passed

@@ -13,7 +13,7 @@ use Rattle.hall_slots.specs.declared.key.HallKey.{HallKey}
 use Rattle.hall_slots.specs.Takes.{HallSeat}
 use Rattle.hall_deciding.specs.Writes.{Parts, parts, told_note, IsOwner, MayBecome, StaySound}
 use Rattle.hall_deciding.specs.declared.noting.Noting.{Noting}
-use Rattle.hall_deciding.specs.declared.noting.Noting.TheVariants.{Same, Found, Does, Yields}
+use Rattle.hall_deciding.specs.declared.noting.Noting.TheVariants.{Same, Found, Does, Yields, Leaves, Closes, Halts}
 
 -- the note of a seat once it notes this
 abbrev pub note_of : SeatNote → Noting → SeatNote
@@ -21,6 +21,9 @@ note_of note Same = note
 note_of note (Found stop) = record note { found = Some stop }
 note_of note (Does event owns) = told_note note owns event
 note_of note (Yields deque) = record (told_note note None (GaveUp deque)) { yielded = true }
+note_of note (Leaves deque) = record (told_note note None (GaveUp deque)) { yielded = true; left = true }
+note_of note (Closes deque end) = record (told_note note None (GaveUp deque)) { yielded = true; answered = Some end }
+note_of note (Halts stop end) = record note { found = Some stop; answered = Some end }
 
 -- Once the seat notes this, these parts may become those, and stay sound.
 pub record MayWrite (key : HallKey) (seat : HallSeat) (deque : DequeId) (was now : Parts) (note : SeatNote) : Type 0 where

@@ -1,5 +1,5 @@
 -- What a seat writes into a hall: the list, the pool, and the lane of its deque.
-use Rattle.std.specs.Prelude.{◌≡◌, ◌⊎◌, ℕ, ◌<◌, false, Option, None, Some, List, [], ◌∷◌, ◌++◌, map, slice_get, slice_set}
+use Rattle.std.specs.Prelude.{◌≡◌, ◌≢◌, ◌⊎◌, ℕ, ◌<◌, false, Option, None, Some, List, [], ◌∷◌, ◌++◌, map, slice_get, slice_set}
 use mathlib.Core.Option.{some}
 use lib.ListN.{get_elem?}
 use Rattle.play_rules.specs.declared.stop.Stop.{Stop}
@@ -95,7 +95,8 @@ pub data BecomesOf (deque : DequeId) (lane : LaneSlot) (was now : List Place) : 
 abbrev pub IsShort : SeatNote → (was now : List Place) → Type 0
 IsShort note was now = (note.left ≡ false) × (note.found ≡ Some OutOfMemory) × (now ≡ was)
 
--- The parts stay sound once they are so and the seat notes this. An end is kept as it was, or it is that of the root's result.
+-- The parts stay sound once they are so and the seat notes this. An end is kept as it was, or it is that of the root's result. A seat that found
+-- lack of memory does not leave, and one is answered only an end that is kept.
 pub record StaySound (key : HallKey) (seat : HallSeat) (deque : DequeId) (was now : Parts) (note : SeatNote) : Type 0 where
   pub pool : PoolIsSound key was.pool → PoolIsSound key now.pool
   pub list : ListIsSound key was.list → ListIsSound key now.list
@@ -108,8 +109,8 @@ pub record StaySound (key : HallKey) (seat : HallSeat) (deque : DequeId) (was no
   pub finished : (finish : Finish) → now.list.end ≡ Some (Finished finish) → (was.list.end ≡ Some (Finished finish))
       ⊎ (end_of_root (kept_under now.list.part.results root) ≡ Some (Finished finish))
   pub worker : note.worker ≡ seat.hand.note.worker
-  pub left : note.left ≡ seat.hand.note.left
-  pub answered : note.answered ≡ seat.hand.note.answered
+  pub left : (note.left ≡ seat.hand.note.left) ⊎ (seat.hand.note.found ≢ Some OutOfMemory)
+  pub answered : (end : RunEnd) → note.answered ≡ Some end → (seat.hand.note.answered ≡ Some end) ⊎ (now.list.end ≡ Some end)
   pub found : (stop : Stop) → seat.hand.note.found ≡ Some stop → note.found ≡ Some stop
 
 -- Then the law holds with the parts in their slots.

@@ -22,7 +22,7 @@ use Rattle.hall_deciding.specs.Writes.{Parts, hall_with, MayBecome}
 use Rattle.hall_deciding.specs.EventParts.{MayGoOn}
 use Rattle.hall_deciding.specs.Puts.{note_of}
 use Rattle.hall_deciding.specs.declared.noting.Noting.{Noting}
-use Rattle.hall_deciding.specs.declared.noting.Noting.TheVariants.{Same, Found, Does, Yields}
+use Rattle.hall_deciding.specs.declared.noting.Noting.TheVariants.{Same, Found, Does, Yields, Leaves, Closes, Halts}
 
 -- The list keeps in no order which threads wait, and the results: here they are in these orders.
 abbrev pub in_order : Hall → List Thread → List Result → Hall
@@ -49,12 +49,16 @@ WritesEvent s h w (GaveUp deque) owned after = (owned ≡ None) × PausesOn s h 
 WritesEvent s h w (Stole deque period) owned after = ⊥
 WritesEvent s h w (Halted end) owned after = ⊥
 
--- So it is with what is noted: an event, or a give up that nothing asks for.
+-- So it is with what is noted: an event, or a give up that nothing asks for. (What a seat writes that leaves, closes the hall or keeps its stop is
+-- said elsewhere.)
 abbrev pub Writes : (s : machine.Setting) (h : Hall) {worker : ℕ} → IsAtWork h worker → Noting → Hall → Type 0
 Writes s h w Same after = ⊥
 Writes s h w (Found stop) after = ⊥
 Writes s h w (Does event owned) after = WritesEvent s h w event owned after
 Writes s h w (Yields deque) after = (w.id ≡ deque) × (after ≡ given_up w)
+Writes s h w (Leaves deque) after = ⊥
+Writes s h w (Closes deque end) after = ⊥
+Writes s h w (Halts stop end) after = ⊥
 
 -- in some order of what is kept in none
 abbrev pub WritesInAnOrder : (s : machine.Setting) (h : Hall) {worker : ℕ} → IsAtWork h worker → Noting → Hall → Type 0
@@ -90,6 +94,9 @@ counts Same = false
 counts (Found stop) = false
 counts (Does event owned) = is_counted event
 counts (Yields deque) = false
+counts (Leaves deque) = false
+counts (Closes deque end) = false
+counts (Halts stop end) = false
 
 -- Then the hall goes on, with what the seat notes.
 abbrev pub EventsMayCome : Type 0

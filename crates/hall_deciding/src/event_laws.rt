@@ -1,10 +1,26 @@
 //! The laws of what an owner writes.
+ghost use Rattle.hall_deciding.specs.Leaving.{OwnersMayLeave, WritersMayBeAnswered, StopsMayBeKept};
 ghost use Rattle.hall_deciding.specs.Quiet.{StatementsMayCome, WantsOfMemoryMayCome, NothingIsTaken};
 ghost use Rattle.hall_deciding.specs.Writing.{EventsMayCome};
 
 /// What an owner writes by an event, whichever it is, leads from a running state to a running state by one event of the machine.
 pub fn events_may_come()
     ensures { EventsMayCome }
+{}
+
+/// An owner that could give its deque up may leave with it, in the same put back.
+pub fn owners_may_leave()
+    ensures { OwnersMayLeave }
+{}
+
+/// A seat may be answered the end that is kept at whatever put back.
+pub fn writers_may_be_answered()
+    ensures { WritersMayBeAnswered }
+{}
+
+/// An owner may keep its stop, or the lack of memory that it finds.
+pub fn stops_may_be_kept()
+    ensures { StopsMayBeKept }
 {}
 
 /// A lane that shows what it showed may be put back: no event is decided.

@@ -29,6 +29,8 @@
 //!   list that is cut there; so what an owner writes is such a step in some order of the list (`WritesInAnOrder`), and a quiet step leads to it.
 //! - **What an owner writes is a step of `hall_interleavings`** (`ActsOn`, `PausesOn`), for each event: so one law, `events_may_come`, leads
 //!   on from a running state, and the sequences of steps in that crate are those of the code.
+//! - **What a seat writes that leaves, closes the hall or keeps its stop has laws of its own** (`Leaving`), since it changes the crew or the end in
+//!   the list beside the event: an owner leaves by one step of `hall_interleavings`, and any put back may answer a seat the end that is kept.
 //! - **An event is decided at the first put back.** From then on the other parts show what they are to be, though the seat still holds them.
 //! - **All events write the same three parts**: the list, the pool and the lane. A part that the seat does not hold is whichever one is there.
 //!   So the law of a written hall is one (`written_halls_hold`), and each set of slots has one put back.

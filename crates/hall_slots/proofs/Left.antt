@@ -46,16 +46,16 @@ use Rattle.hall_slots.specs.Leaving.{end_left, left_note, IsIdle, MayLeave, Hold
 use Rattle.hall_slots.proofs.Named.{unowned_of}
 
 -- the end that is kept then, as it is shown
-shown_left : (end : Option RunEnd) (found : Option Stop) → option_map end_shown (end_left end found) ≡ kept_with (option_map stop_shown found) (option_map end_shown end)
+pub shown_left : (end : Option RunEnd) (found : Option Stop) → option_map end_shown (end_left end found) ≡ kept_with (option_map stop_shown found) (option_map end_shown end)
 shown_left end None = refl
 shown_left end (Some stop) = ap (λ (e : End). Some e) (shown_end end stop)
 
 -- an end that was kept is the one that is kept, and a finish was kept before
-kept_left : (o : Option RunEnd) (found : Option Stop) (end : RunEnd) → o ≡ Some end → end_left o found ≡ Some end
+pub kept_left : (o : Option RunEnd) (found : Option Stop) (end : RunEnd) → o ≡ Some end → end_left o found ≡ Some end
 kept_left o None end is = is
 kept_left o (Some stop) end is = kept_before o stop end is
 
-finished_left : (o : Option RunEnd) (found : Option Stop) (finish : Finish) → end_left o found ≡ Some (Finished finish) → o ≡ Some (Finished finish)
+pub finished_left : (o : Option RunEnd) (found : Option Stop) (finish : Finish) → end_left o found ≡ Some (Finished finish) → o ≡ Some (Finished finish)
 finished_left o None finish is = is
 finished_left o (Some stop) finish is = finished_before o stop finish is
 

@@ -15,8 +15,8 @@ pub mod Listed
 mod EnteredLists
 mod Split
 mod Entered
-mod Named
-mod Left
+pub mod Named
+pub mod Left
 mod Joined
 mod Drawn
 pub mod Stopped

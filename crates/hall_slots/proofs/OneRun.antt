@@ -1,7 +1,7 @@
 -- What comes out of a hall that is closed is of one run.
 use Rattle.std.proofs.Common.{◌≡◌, ℕ, ◌<◌, List, ◌∷◌, map, inl, inr, refl, sym, ap, ◌∙◌, subst, arith}
 use Rattle.std.proofs.Math.Logic.{∥∥₁_map}
-use Rattle.std.specs.Prelude.{None, Some, false, slice_get}
+use Rattle.std.specs.Prelude.{Option, None, Some, false, slice_get}
 use Rattle.std.specs.Option.{option_map}
 use Rattle.std.proofs.lemmas.Bool.{cases_eq}
 use Rattle.std.proofs.lemmas.Option.{same_Some}
@@ -94,3 +94,10 @@ pub closed_of : (key : HallKey) (before seat : HallSeat) (end : RunEnd) → MayC
 closed_of key before seat end may seen placed has list pool last =
     closed_with key seat list pool last placed has (ap (λ (s : HallSeat). s.hand.note.deque) seen.2 ∙ may.idle) end (ap (λ (s : HallSeat). s.hand.note.answered) seen.2) before
     (sym (ap (λ (s : HallSeat). s.number) seen.2)) (sym (ap (λ (s : HallSeat). s.hand.note) seen.2))
+
+-- so does one that was answered it before
+pub closed_at : (key : HallKey) (seat : HallSeat) (end : RunEnd) → MayClose key seat → seat.hand.note.answered ≡ Some end
+    → (list : ListSlot) (pool : PoolSlot) → AreLast key seat list pool → IsClosed key seat list pool end
+closed_at key seat end may answered list pool last =
+    closed_with key seat list pool last may.placed may.all may.idle end answered seat refl
+    (ap (λ (o : Option RunEnd). record seat.hand.note { answered = o }) (sym answered))

@@ -8,6 +8,7 @@ pub use Rattle.hall_machine.proofs.Closing as Closing
 pub use Rattle.hall_machine.proofs.Halting as Halting
 pub use Rattle.hall_machine.proofs.Lanes as Lanes
 pub use Rattle.hall_machine.proofs.Notes as Notes
+pub use Rattle.hall_machine.proofs.Noting as Noting
 pub use Rattle.hall_machine.proofs.Owners as Owners
 pub use Rattle.hall_machine.proofs.Points as Points
 pub use Rattle.hall_machine.proofs.Quiet as Quiet

@@ -19,6 +19,7 @@ pub use Rattle.hall_machine.specs.Crew as Crew
 pub use Rattle.hall_machine.specs.Events as HallMachineEvents
 pub use Rattle.hall_machine.specs.Numbers as HallMachineNumbers
 pub use Rattle.hall_machine.specs.Points as HallMachinePoints
+pub use Rattle.hall_machine.specs.Quiet as Quiet
 pub use Rattle.hall_machine.specs.Receipts as Receipts
 pub use Rattle.hall_machine.specs.Rows as Rows
 pub use Rattle.hall_machine.specs.Seats as Seats

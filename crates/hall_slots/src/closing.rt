@@ -12,6 +12,7 @@ use crate::closed::ClosedHall;
 use crate::seeing::see_end;
 use crate::{HallPlace, HallRow, ListSlot, PoolSlot, Slot};
 use containers::Boxed;
+use play_rules::RunEnd;
 
 /// The list and the pool, which are the first two of these slots.
 fn parts_of(mut values: Vec<Slot>) -> (Boxed<ListSlot>, PoolSlot)
@@ -39,6 +40,19 @@ fn close_row(row: HallRow, seat: HallPlace) -> (Boxed<ListSlot>, PoolSlot)
         Ok(values) => parts_of(values),
         Err(_) => unreachable!(),
     }
+}
+
+/// Closes a hall with the seat that has all places, owns no deque and was answered this end.
+pub fn close_at(row: HallRow, seat: HallPlace, end: RunEnd) -> ClosedHall
+    requires here { IsSeatOf row seat }
+    requires may { MayClose (key_of row) seat }
+    requires free { seat.hand.holds ≡ [] }
+    requires answered { seat.hand.note.answered ≡ Some end }
+    ensures closed { IsClosed (key_of row) seat result.list result.pool end }
+    ensures end { result.end ≡ end }
+{
+    let (list, pool) = close_row(row, seat);
+    ClosedHall { end, list, pool }
 }
 
 /// Closes a hall with the seat that has all places and owns no deque. If the seat was answered an end, this is the end that is kept.

@@ -8,7 +8,7 @@ use crate::{HallPlace, HallRow};
 use std::marker::Brand;
 
 /// Joins a seat that has left into another, which has its places besides its own.
-pub(crate) fn join(row: &HallRow, into: &mut HallPlace, gone: HallPlace)
+pub fn join(row: &HallRow, into: &mut HallPlace, gone: HallPlace)
     requires here { IsSeatOf row.now into.old × IsSeatOf row.now gone }
     requires placed { IsPlaced into.old }
     requires gone { HasGone gone }

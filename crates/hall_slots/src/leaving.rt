@@ -16,7 +16,7 @@ use std::marker::Brand;
 use turn_table::Held;
 
 /// Lets a worker out of the list, where the stop that its seat found is kept unless an end is.
-fn leave_in(list: &mut Boxed<ListSlot>, worker: u32, found: Option<Stop>)
+pub fn leave_in(list: &mut Boxed<ListSlot>, worker: u32, found: Option<Stop>)
     requires { 0 < times worker list.old.crew.items }
     ensures crew { IsOutOf worker list.old.crew.items list.new.crew.items }
     ensures part { list.new.part ≡ list.old.part }

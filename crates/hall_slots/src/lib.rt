@@ -64,14 +64,15 @@ mod takes;
 
 pub use backs::{give_lane_back, give_list_back, give_pool_back};
 pub use closed::ClosedHall;
-pub use closing::close;
+pub use closing::{close, close_at};
 pub use counting::count_action;
 pub use entering::enter;
 pub use event::Event;
 pub use halting::{halt, keep_in};
+pub use joining::join;
 pub use key::HallKey;
 pub use lane_slot::{LaneSlot, Running};
-pub use leaving::leave;
+pub use leaving::{leave, leave_in};
 pub use list_slot::ListSlot;
 pub use lists::{end_of, put_answered, put_same};
 pub use opening::open_row;

@@ -5,4 +5,5 @@ mod Putting
 pub mod Pooled
 pub mod Listing
 mod Handed
+pub mod Leaving
 pub mod Passed

@@ -1,5 +1,6 @@
 -- What callers need of what this crate stands on.
 pub use Rattle.hall_deciding.specs.EventParts as EventParts
+pub use Rattle.hall_deciding.specs.Leaving as Leaving
 pub use Rattle.hall_deciding.specs.Own as Own
 pub use Rattle.hall_deciding.specs.Puts as Puts
 pub use Rattle.hall_deciding.specs.Rooms as Rooms

@@ -16,8 +16,7 @@ use Rattle.hall_slots.proofs.Passed.DequeMachineLists.{cons_is_not_nil, same_hea
 use Rattle.moment_shown.specs.Parts as parts
 use Rattle.node_table.specs.Table.{Table}
 use Rattle.open_periods.specs.Periods.{Period}
-use Rattle.hall_deciding.specs.Passed.Stop.{Stop}
-use Rattle.hall_deciding.specs.Passed.StopVariants.{ArenaFull, DequesFull, StepsSpent, OutOfMemory}
+use Rattle.hall_deciding.specs.Passed.StopVariants.{OutOfMemory}
 use Rattle.thread_frames.specs.Points.{IsAtPoint}
 use Rattle.thread_frames.specs.Views.{done_of, thread_words}
 use Rattle.thread_frames.specs.declared.thread.Thread.{Thread}
@@ -29,7 +28,7 @@ use Rattle.turn_table.specs.Law.{Stands}
 use Rattle.turn_table.specs.Notes.{HasAs, notes}
 use Rattle.turn_table.proofs.NoteLaws.{notes_at}
 use Rattle.turn_table.proofs.Standing.{shown_as}
-use Rattle.hall_machine.specs.Values.{Hall, ListShown, LaneShown, PoolShown, Stop as HallStop, by_rule, no_memory, lane_at}
+use Rattle.hall_machine.specs.Values.{Hall, ListShown, LaneShown, PoolShown, lane_at}
 use Rattle.hall_machine.specs.Writing.{IsAtWork, lane_slot, lane_with, place_of}
 use Rattle.hall_machine.proofs.Closing.{owners_are_at_work}
 use Rattle.hall_machine.specs.Crew.{SeatStands}
@@ -42,7 +41,7 @@ use Rattle.hall_slots.specs.declared.list_slot.ListSlot.{ListSlot}
 use Rattle.hall_slots.specs.declared.pool_slot.PoolSlot.{PoolSlot}
 use Rattle.hall_slots.specs.declared.slot.Slot.{Slot}
 use Rattle.hall_slots.specs.declared.slot.Slot.TheVariants as slots
-use Rattle.hall_slots.specs.Shown.{value_of, view_of, lane_shown, running_shown, stop_shown}
+use Rattle.hall_slots.specs.Shown.{value_of, view_of, lane_shown, running_shown}
 use Rattle.hall_slots.specs.declared.key.HallKey.{HallKey}
 use Rattle.hall_slots.specs.Keys.{table_of, quota_of, terms_of, IsKey}
 use Rattle.hall_slots.specs.Law.{HallHolds, joined_note}
@@ -54,6 +53,7 @@ use Rattle.hall_slots.proofs.Lone.{noted_at}
 use Rattle.hall_slots.proofs.Reading.{get_of_at}
 use Rattle.hall_slots.proofs.Written.{list_at, pool_at, lane_shown_at}
 use Rattle.hall_deciding.proofs.Owned.{split}
+use Rattle.hall_deciding.proofs.Sound.{shown_memory}
 use Rattle.hall_deciding.proofs.There.{slot_is, list_there, pool_there}
 use Rattle.owner_advance.specs.Within.{AreWithin}
 use Rattle.owner_advance.specs.Reads.{ReadsLane, HoldsItsLane, OwnersRead, OwnersReadPools, PoolsAreSound, KeysAreSound}
@@ -63,18 +63,6 @@ use Rattle.owner_advance.proofs.Within.{owners_are_within}
 each_point_one : (t : Table) (k : ℕ) (xs : List Thread) → IsProp (Each (IsAtPoint t k) xs)
 each_point_one t k [] a b = refl
 each_point_one t k (x ∷ xs) a b = λ i. (point_one t k x a.0 b.0 i, each_point_one t k xs a.1 b.1 i)
-
--- who shows want of memory found it
-abbrev is_no_memory : HallStop → Type 0
-is_no_memory (by_rule stop) = ⊥
-is_no_memory no_memory = Unit {0}
-
-shown_memory : (found : Option Stop) → option_map stop_shown found ≡ Some no_memory → found ≡ Some OutOfMemory
-shown_memory None is = absurd (none-some no_memory is)
-shown_memory (Some (ArenaFull live asked)) is = absurd (subst is_no_memory (sym (same_Some (stop_shown (ArenaFull live asked)) no_memory is)) tt)
-shown_memory (Some (DequesFull deques)) is = absurd (subst is_no_memory (sym (same_Some (stop_shown (DequesFull deques)) no_memory is)) tt)
-shown_memory (Some (StepsSpent limit)) is = absurd (subst is_no_memory (sym (same_Some (stop_shown (StepsSpent limit)) no_memory is)) tt)
-shown_memory (Some OutOfMemory) is = refl
 
 -- a list and an option that are not empty
 not_empty : {X : Type 0} (xs : List X) → (xs ≡ [] → ⊥) → (x : X) × (rest : List X) × (xs ≡ x ∷ rest)

@@ -21,9 +21,9 @@ use Rattle.hall_deciding.proofs.Rooms.{pool_same, shown_with}
 use Rattle.hall_deciding.proofs.Staying.{all_at, each_moved}
 use Rattle.hall_deciding.specs.Puts.{note_of, MayPutPoolAndLane, MayPutListAndLane, MayPutAll}
 use Rattle.hall_deciding.specs.declared.noting.Noting.{Noting}
-use Rattle.hall_deciding.specs.declared.noting.Noting.TheVariants.{Same, Found, Does, Yields}
+use Rattle.hall_deciding.specs.declared.noting.Noting.TheVariants.{Same, Found, Does, Yields, Leaves, Closes, Halts}
 use Rattle.hall_slots.specs.Keys.{table_of, quota_of, terms_of}
-use Rattle.hall_slots.specs.Shown.{list_shown, view_of}
+use Rattle.hall_slots.specs.Shown.{lane_shown, list_shown, view_of}
 use Rattle.hall_slots.specs.Sound.{thread_that_waits, PoolIsSound}
 use Rattle.hall_slots.specs.Steps.{IsRunning}
 use Rattle.hall_slots.specs.Takes.{HallSeat}
@@ -60,15 +60,16 @@ places_stay note Same = refl
 places_stay note (Found stop) = refl
 places_stay note (Does event owns) = refl
 places_stay note (Yields deque) = refl
+places_stay note (Leaves deque) = refl
+places_stay note (Closes deque end) = refl
+places_stay note (Halts stop end) = refl
 
 plus_zero : (n : ℕ) → n + 0 ≡ n
 plus_zero n = omega arith
 
-module _ (key : HallKey) (seat : HallSeat) (deque : DequeId) (was now : Parts) (noting : Noting) (more : HasMoreRoom was.list now.list) (pool : IsSamePool was.pool now.pool)
-    (lane : ReturnsLane key seat deque was.lane now.lane) (may : MayNote key seat deque was noting) where
-  abbrev note : SeatNote
-  note = note_of seat.hand.note noting
-
+-- parts that a seat may put back so may be put back with more room
+module _ (key : HallKey) (seat : HallSeat) (deque : DequeId) (first was now : Parts) (more : HasMoreRoom was.list now.list) (pool : IsSamePool was.pool now.pool)
+    (same : lane_shown now.lane ≡ lane_shown was.lane) where
   abbrev waiting_now : List shown.Thread
   waiting_now = map waiting_shown now.list.part.waiting.entries
 
@@ -83,7 +84,7 @@ module _ (key : HallKey) (seat : HallSeat) (deque : DequeId) (was now : Parts) (
   is_now h = λ i. record {
     list = sym (shown_with was.list now.list more.deques waiting_now results_now refl refl) i;
     pool = sym (pool_same was.pool now.pool pool) i;
-    lanes = slice_set h.lanes deque.0 (sym lane.same i);
+    lanes = slice_set h.lanes deque.0 (sym same i);
   }
 
   module _ (c : Setting) (h : Hall) (count : ℕ) (views : List View) where
@@ -105,9 +106,17 @@ module _ (key : HallKey) (seat : HallSeat) (deque : DequeId) (was now : Parts) (
           (record { places = refl; crew = refl; kept = refl; periods = λ id worker owned. refl })),
     )
 
+  pub goes_more : (note : SeatNote) → MayBecome key seat deque first was note → MayBecome key seat deque first now note
+  goes_more note may c of h count views run list_is pool_is lane_is its =
+      ∥∥₁_map (may c of h count views run list_is pool_is lane_is its) (still c h count (slice_set views seat.number (view_of note)))
+
+module _ (key : HallKey) (seat : HallSeat) (deque : DequeId) (was now : Parts) (noting : Noting) (more : HasMoreRoom was.list now.list) (pool : IsSamePool was.pool now.pool)
+    (lane : ReturnsLane key seat deque was.lane now.lane) (may : MayNote key seat deque was noting) where
+  abbrev note : SeatNote
+  note = note_of seat.hand.note noting
+
   pub goes_on : MayBecome key seat deque was now note
-  goes_on c of h count views run list_is pool_is lane_is its =
-      ∥∥₁_map (may.goes_on c of h count views run list_is pool_is lane_is its) (still c h count (slice_set views seat.number (view_of note)))
+  goes_on = goes_more key seat deque was was now more pool lane.same note may.goes_on
 
   pub stay : StaySound key seat deque was now note
   stay = record {
@@ -125,8 +134,8 @@ module _ (key : HallKey) (seat : HallSeat) (deque : DequeId) (was now : Parts) (
     ends = λ end is. more.deques.end ∙ is;
     finished = λ finish is. inl (sym more.deques.end ∙ is);
     worker = may.on.worker;
-    left = may.on.left;
-    answered = may.on.answered;
+    left = inl may.on.left;
+    answered = λ e is. inl (sym may.on.answered ∙ is);
     found = may.on.found;
   }
 
