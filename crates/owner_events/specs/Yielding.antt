@@ -1,8 +1,10 @@
 -- How an owner gives its deque up though nothing asks for it.
-use Rattle.std.specs.Prelude.{◌≡◌, ◌≢◌, ◌⊎◌, ℕ, ◌+◌, true, Option, None, Some, List, [], ◌∷◌, ◌++◌, Result, Ok, Err}
+use Rattle.std.specs.Prelude.{◌≡◌, ◌≢◌, ◌⊎◌, ℕ, ◌+◌, ◌≤◌, true, Option, None, Some, List, [], ◌∷◌, ◌++◌, Result, Ok, Err}
 use Rattle.deque_list.specs.declared.deque_id.DequeId.{DequeId}
+use Rattle.play_rules.specs.declared.ends.RunEnd.{RunEnd}
 use Rattle.play_rules.specs.declared.stop.Stop.{Stop}
 use Rattle.play_rules.specs.declared.stop.Stop.TheVariants as stops
+use Rattle.space_ledger.specs.BooksList.{books_spare}
 use Rattle.turn_table.specs.declared.held.Held.{Held}
 use Rattle.turn_table.specs.declared.look.Look.{Look}
 use Rattle.turn_table.specs.declared.look.Look.TheVariants.{Took, Refused}
@@ -10,12 +12,15 @@ use Rattle.owner_acts.specs.Passed.EventParts.{MayPause}
 use Rattle.owner_acts.specs.Passed.Writes.{told_note}
 use Rattle.owner_acts.specs.Passed.Taken.{list_and_lane}
 use Rattle.owner_acts.specs.Passed.Noting.{Noting}
+use Rattle.owner_acts.specs.Passed.Rooms.{HasMoreBooks}
 use Rattle.owner_acts.specs.Passed.NotingVariants.{Same, Found}
+use Rattle.hall_slots.specs.ListCalls.{end_kept, ShowsUnowned, HasNoOwner, KeepsRest}
 use Rattle.hall_slots.specs.Lists.{answered_note}
 use Rattle.hall_slots.specs.Takes.{HallSeat, MeetsLaw}
 use Rattle.hall_slots.specs.declared.event.Event.TheVariants.{GaveUp}
 use Rattle.hall_slots.specs.declared.key.HallKey.{HallKey}
 use Rattle.hall_slots.specs.declared.lane_slot.LaneSlot.{LaneSlot}
+use Rattle.hall_slots.specs.declared.lane_slot.Running.{Running}
 use Rattle.hall_slots.specs.declared.list_slot.ListSlot.{ListSlot}
 use Rattle.hall_slots.specs.declared.seat_note.SeatNote.{SeatNote}
 use Rattle.hall_slots.specs.declared.slot.Slot.{Slot}
@@ -24,8 +29,10 @@ use Rattle.owner_acts.specs.Passed.Advancing.{HasLooked, took_lane}
 use Rattle.owner_events.specs.Holding.{found_note}
 use Rattle.owner_events.specs.declared.refused.ActRefused.{ActRefused}
 use Rattle.owner_events.specs.declared.refused.ActRefused.TheVariants as failed
-use Rattle.owner_events.specs.declared.yields.YieldRefused.{YieldRefused}
-use Rattle.owner_events.specs.declared.yields.YieldRefused.TheVariants.{Busy, OutOfMemory}
+use Rattle.owner_events.specs.declared.leaving.LastRefused.{LastRefused}
+use Rattle.owner_events.specs.declared.leaving.LastRefused.TheVariants as last
+use Rattle.owner_events.specs.declared.leaving.YieldRefused.{YieldRefused}
+use Rattle.owner_events.specs.declared.leaving.YieldRefused.TheVariants.{Busy, OutOfMemory}
 
 -- The seat is in, owns the deque, and holds nothing and no count. It has not found that memory was wanting: then its top thread may be short of
 -- its point, and nobody may run it again.
@@ -45,6 +52,13 @@ pub record HasBoth (key : HallKey) (seat : HallSeat) (deque : DequeId) (list : L
 abbrev pub yielded_note : SeatNote → DequeId → SeatNote
 yielded_note note deque = record (told_note note None (GaveUp deque)) { yielded = true }
 
+-- of one that left with it, and of one that gave it up as its hall is closed, and was answered this end, which is kept
+abbrev pub leaving_note : SeatNote → DequeId → SeatNote
+leaving_note note deque = record (yielded_note note deque) { left = true }
+
+abbrev pub closing_note : SeatNote → DequeId → RunEnd → SeatNote
+closing_note note deque end = record (yielded_note note deque) { answered = Some end }
+
 -- the stop of a seat that is refused memory: the one that it had found, and else this
 abbrev pub stop_then : Option Stop → Stop
 stop_then None = stops.OutOfMemory
@@ -57,6 +71,22 @@ noting_then (Some stop) = Same
 
 abbrev pub short_note : SeatNote → SeatNote
 short_note note = found_note note (stop_then note.found)
+
+-- its note if the list keeps this stop then, or the end that it kept before, and the seat is answered the end that is kept
+abbrev pub halting_note : SeatNote → ListSlot → SeatNote
+halting_note note list = record (short_note note) { answered = Some (end_kept list.end (stop_then note.found)) }
+
+-- The deque was given up in this list and this lane: there is room to close its period, which is closed now, and the deque has no owner.
+pub record IsGivenUp (deque : DequeId) (list_was : ListSlot) (lane_was : LaneSlot) (list : ListSlot) (lane : LaneSlot) : Type 0 where
+  pub roomy : ListSlot
+  pub more : HasMoreBooks list_was roomy
+  pub room : 1 ≤ books_spare roomy.part.books
+  pub running : Running
+  pub its_period : lane_was.running ≡ Some running
+  pub shown : ShowsUnowned roomy list deque running
+  pub places : HasNoOwner deque roomy.part.order.places list.part.order.places
+  pub rest : KeepsRest roomy list
+  pub lane_is : lane ≡ record { lane = lane_was.lane; running = None }
 
 -- It took its lane, and then the list, which was this. It holds nothing, and notes this.
 abbrev pub HasTakenBoth : HallSeat → DequeId → ListSlot → SeatNote → HallSeat → Type 0
@@ -73,11 +103,33 @@ abbrev pub IsBusy : HallSeat → DequeId → Held → HallSeat → Type 0
 IsBusy before deque held after = (more : List (Look Slot))
     × HasLooked before (more ++ Refused held.slot held.seen ∷ []) before.hand.note after × IsOneOfBoth deque held.slot more
 
--- It has given the deque up, whether or not an end is kept; or a slot was refused to it; or memory was, and it has found a stop.
-abbrev pub Yields : HallSeat → DequeId → Result (Unit {0}) YieldRefused → HallSeat → Type 0
-Yields before deque (Ok done) after = (list : ListSlot) × HasTakenBoth before deque list (yielded_note before.hand.note deque) after
-Yields before deque (Err (Busy held)) after = IsBusy before deque held after
-Yields before deque (Err OutOfMemory) after = (list : ListSlot) × HasTakenBoth before deque list (short_note before.hand.note) after
+-- It has left with the deque, whether or not an end is kept; or a slot was refused to it; or memory was, and the list keeps its stop, unless an end
+-- was kept before.
+abbrev pub LeavesWith : HallSeat → DequeId → Result (Unit {0}) YieldRefused → HallSeat → Type 0
+LeavesWith before deque (Ok done) after = (list : ListSlot) × HasTakenBoth before deque list (leaving_note before.hand.note deque) after
+LeavesWith before deque (Err (Busy held)) after = IsBusy before deque held after
+LeavesWith before deque (Err OutOfMemory) after = (list : ListSlot) × HasTakenBoth before deque list (halting_note before.hand.note list) after
+
+-- It has given the deque up where this end is kept; or a slot was refused to it; or no end is kept; or one is, and memory was refused to it.
+abbrev pub ClosesWith : HallSeat → DequeId → Result RunEnd LastRefused → HallSeat → Type 0
+ClosesWith before deque (Ok end) after =
+    (list : ListSlot) × (list.end ≡ Some end) × HasTakenBoth before deque list (closing_note before.hand.note deque end) after
+ClosesWith before deque (Err (last.Busy held)) after = IsBusy before deque held after
+ClosesWith before deque (Err last.NotOver) after = (list : ListSlot) × (list.end ≡ None) × HasTakenBoth before deque list before.hand.note after
+ClosesWith before deque (Err last.OutOfMemory) after =
+    (list : ListSlot) × (end : RunEnd) × (list.end ≡ Some end) × HasTakenBoth before deque list (short_note before.hand.note) after
+
+-- an end may be kept where it is refused so
+abbrev pub MayBeOver : LastRefused → Type 0
+MayBeOver (last.Busy held) = Unit {0}
+MayBeOver last.NotOver = ⊥
+MayBeOver last.OutOfMemory = Unit {0}
+
+abbrev pub IsNotHeld : Result RunEnd LastRefused → Type 0
+IsNotHeld (Ok end) = Unit {0}
+IsNotHeld (Err (last.Busy held)) = ⊥
+IsNotHeld (Err last.NotOver) = Unit {0}
+IsNotHeld (Err last.OutOfMemory) = Unit {0}
 
 -- no slot was refused to it
 abbrev pub IsNotBusy : Result (Unit {0}) YieldRefused → Type 0

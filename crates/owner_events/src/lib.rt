@@ -4,7 +4,8 @@
 //! a wait for a child, or a give up of the deque. It takes the slots that the event needs in one order, its lane first, then the list, then
 //! the pool; counts the action once there is memory for it; does it to the parts; and puts them back, by which the event is decided. If a
 //! slot is held by another seat, the run is over, there is not enough memory, or a limit of the run is met, it gives all slots back
-//! ([`ActRefused`]). Between two events it may let its top thread go on for a while with its lane free in between ([`step_on`]). A seat may also give its deque up though nothing asks for it ([`give_up_deque`]), also after the end of the run ([`yield_deque`]).
+//! ([`ActRefused`]). Between two events it may let its top thread go on for a while with its lane free in between ([`step_on`]). A seat may also give its deque up
+//! though nothing asks for it ([`give_up_deque`]), leave with it ([`leave_deque`]), or give it up as the last seat of a hall ([`close_deque`]).
 //!
 //! It uses the way to the action and what is put back if no event comes (`owner_advance`), the count (`hall_slots`), and the
 //! events themselves (`owner_acts`). It hands the memory of a seat on ([`SeatMemory`]), so that who
@@ -22,6 +23,8 @@
 //!   release, fault, or end below a parent in the same deque never wait for it.
 //! - **A failed call answers what the event would need first**: a slot that another seat holds, then an end that is kept, then the arena, then
 //!   memory, then the count of actions. The arena comes before the count, since the count that was drawn is not given back.
+//! - **A seat that leaves gives its deque up and takes its worker out of the list in one hold**, and each list and lane that is given up is made by
+//!   one function (`give_up_in`). What differs is what the seat notes at the put back. If memory is lacking, the list keeps its stop there.
 //! - **The place of the next child belongs to the seat** (`SeatMemory`). It is asked for before each event, though only a Fork uses it: the
 //!   owner does not know its next action before it has run up to it, and there it holds its lane.
 #![tactic(auto)]
@@ -30,6 +33,7 @@ mod acted;
 mod acting;
 mod doing;
 mod laws;
+mod leaving;
 mod refused;
 mod stepping;
 mod taken;
@@ -40,7 +44,8 @@ mod yields;
 pub use acted::Acted;
 pub use acting::act;
 pub use laws::one_event;
+pub use leaving::{LastRefused, YieldRefused, close_deque, leave_deque, stop_then};
 pub use owner_acts::SeatMemory;
 pub use refused::ActRefused;
 pub use stepping::step_on;
-pub use yields::{YieldRefused, give_up_deque, yield_deque};
+pub use yields::give_up_deque;

@@ -1,17 +1,19 @@
 //! How an owner gives its deque up though nothing asks for it.
 
-ghost use Rattle.std.specs.Prelude.{◌≡◌, ◌≢◌, ◌+◌, ◌<◌, [], IfOk, IsOk, MatchResult, OnOk, Some};
+ghost use Rattle.std.specs.Prelude.{◌≡◌, ◌≢◌, ℕ, ◌+◌, ◌<◌, [], Option, IfOk, IsOk, MatchResult, OnOk, Some};
 ghost use Rattle.dag_order.specs.declared.finish.Finish.{Finish as AnyFinish};
+ghost use Rattle.hall_slots.specs.Passed.Parts.{Has};
+ghost use Rattle.hall_slots.specs.declared.lane_slot.Running.{Running as AnyRunning};
+ghost use Rattle.owner_acts.specs.Passed.Rooms.{HasMoreBooks};
 ghost use Rattle.play_rules.specs.declared.ends.RunEnd.TheVariants.{Finished};
 ghost use Rattle.turn_table.specs.Tables.{key_of, slot_count, IsSeatOf};
-ghost use Rattle.owner_acts.specs.Passed.Puts.{note_of, HasPut};
-ghost use Rattle.owner_acts.specs.Passed.Writes.{Parts};
+ghost use Rattle.owner_acts.specs.Passed.Puts.{HasPut};
 ghost use Rattle.hall_slots.specs.Takes.{AreTaken, HasAllPlaces, MeetsLaw};
 ghost use Rattle.hall_slots.specs.declared.slot.Slot.TheVariants as slots;
 ghost use Rattle.owner_acts.specs.Passed.Advancing.{MayCome};
-ghost use Rattle.owner_acts.specs.Passed.Returning.{MayNote};
-ghost use Rattle.owner_events.specs.Holding.{IsNotBusy as IsNotRefused};
-ghost use Rattle.owner_events.specs.Yielding.{noting_then, yielded_note, GivesUp, HasBoth, IsBusy, IsNotBusy, MayYield, Yields};
+ghost use Rattle.play_rules.specs.declared.stop.Stop.TheVariants.{OutOfMemory as NoMemory};
+ghost use Rattle.owner_events.specs.Holding.{found_note, IsNotBusy as IsNotRefused};
+ghost use Rattle.owner_events.specs.Yielding.{yielded_note, GivesUp, HasBoth, IsBusy, IsGivenUp, MayYield};
 
 use crate::refused::ActRefused;
 use containers::Boxed;
@@ -24,21 +26,12 @@ use play_rules::Stop;
 use std::alloc::AllocError;
 use turn_table::Held;
 
-/// Why no deque was given up.
-#[derive(Clone, Copy, PartialEq, Eq, Debug)]
-pub enum YieldRefused {
-    /// Another seat holds the lane or the list.
-    Busy(Held),
-    /// There is not enough memory.
-    OutOfMemory,
-}
-
 /// Takes the lane of the deque, and then the list.
 ///
 /// # Errors
 ///
 /// Another seat holds one of them (never, if this one has all places). The seat holds nothing.
-fn take_both(
+pub(crate) fn take_both(
     row: &HallRow,
     seat: &mut HallPlace,
     deque: DequeId,
@@ -61,85 +54,65 @@ fn take_both(
     }
 }
 
-/// Gives the deque up with its lane and the list, if there is memory to close its period, and puts both back.
+/// Gives the deque up in the list that was taken, if there is memory to close its period, and gives its lane, in which none runs then.
 ///
 /// # Errors
 ///
-/// There is not enough memory. What was taken is put back as it was, and the seat notes this.
-fn close_period(
-    row: &HallRow,
-    seat: &mut HallPlace,
+/// There is not enough memory. The lane comes back.
+pub(crate) fn give_up_in(
+    list: &mut Boxed<ListSlot>,
     deque: DequeId,
-    list: Boxed<ListSlot>,
     lane: LaneSlot,
-    short: Noting,
-) -> Result<(), AllocError>
-    requires here { IsSeatOf row.now seat.old }
-    requires slot { deque.0 + 2 < slot_count row.now }
-    requires both { HasBoth (key_of row.now) seat.old deque list lane }
-    requires short { (was : Parts) → MayNote (key_of row.now) seat.old deque was short }
-    ensures seat { MatchResult result (λ _. HasPut seat.old (yielded_note seat.old.hand.note deque) [] seat.new)
-        (λ _. HasPut seat.old (note_of seat.old.hand.note short) [] seat.new) }
+) -> Result<LaneSlot, LaneSlot>
+    requires has { (owner : Option ℕ) × Has list.old.part.order.places deque owner }
+    requires runs { (running : AnyRunning) × (lane.running ≡ Some running) }
+    ensures { MatchResult result (λ left. IsGivenUp deque list.old lane list.new left) (λ back. HasMoreBooks list.old list.new × (back ≡ lane)) }
 {
-    let mut list = list;
-    match make_room_to_close(&mut list) {
+    match make_room_to_close(list) {
         Ok(()) => (),
-        Err(_) => {
-            return_list(row, seat, deque, list, lane, short);
-            return Err(AllocError);
-        }
+        Err(_) => return Err(lane),
     }
     let LaneSlot { lane, running } = lane;
     let Some(running) = running else {
         unreachable!();
     };
     list.get_mut().give_up(deque, running);
-    let lane = LaneSlot {
+    Ok(LaneSlot {
         lane,
         running: None,
-    };
-    put_list_and_lane(row, seat, deque, list, lane, Noting::Yields(deque));
-    Ok(())
+    })
 }
 
-/// What a seat notes that is refused memory and has found this stop or none.
-fn noting_of(found: Option<Stop>) -> Noting
-    ensures { result ≡ noting_then found }
-{
-    match found {
-        Some(_) => Noting::Same,
-        None => Noting::Found(Stop::OutOfMemory),
-    }
-}
-
-/// Gives the deque of a seat up though nothing asks for it, also where an end is kept. The seat has found this stop or none. No statement of its
-/// threads runs.
+/// Gives the deque up with its lane and the list, if there is memory to close its period, and puts both back.
 ///
 /// # Errors
 ///
-/// Another seat holds the lane or the list (never, if this one has all places), or there is not enough memory to close the period, which the seat
-/// notes as its stop if it had found none. The moment of the hall is what it was, and the seat holds nothing.
-pub fn yield_deque(
+/// There is not enough memory. What was taken is put back as it was, and this is the stop that the seat finds.
+fn close_period(
     row: &HallRow,
     seat: &mut HallPlace,
     deque: DequeId,
-    found: Option<Stop>,
-) -> Result<(), YieldRefused>
+    list: Boxed<ListSlot>,
+    lane: LaneSlot,
+) -> Result<(), AllocError>
     requires here { IsSeatOf row.now seat.old }
     requires slot { deque.0 + 2 < slot_count row.now }
-    requires may { MayYield seat.old deque }
-    requires found { seat.old.hand.note.found ≡ found }
-    ensures seat { Yields seat.old deque result seat.new }
-    ensures unfinished { OnOk result ((finish : AnyFinish) → seat.old.hand.note.answered ≢ Some (Finished finish)) }
-    ensures lone { HasAllPlaces (key_of row.now) seat.old → IsNotBusy result }
+    requires both { HasBoth (key_of row.now) seat.old deque list lane }
+    requires none { seat.old.hand.note.found ≡ None }
+    ensures seat { MatchResult result (λ _. HasPut seat.old (yielded_note seat.old.hand.note deque) [] seat.new)
+        (λ _. HasPut seat.old (found_note seat.old.hand.note NoMemory) [] seat.new) }
 {
-    let (lane, list) = match take_both(row, seat, deque) {
-        Ok(taken) => taken,
-        Err(held) => return Err(YieldRefused::Busy(held)),
-    };
-    match close_period(row, seat, deque, list, lane, noting_of(found)) {
-        Ok(()) => Ok(()),
-        Err(_) => Err(YieldRefused::OutOfMemory),
+    let mut list = list;
+    match give_up_in(&mut list, deque, lane) {
+        Ok(lane) => {
+            put_list_and_lane(row, seat, deque, list, lane, Noting::Yields(deque));
+            Ok(())
+        }
+        Err(lane) => {
+            let short = Noting::Found(Stop::OutOfMemory);
+            return_list(row, seat, deque, list, lane, short);
+            Err(AllocError)
+        }
     }
 }
 
@@ -166,8 +139,7 @@ pub fn give_up_deque(row: &HallRow, seat: &mut HallPlace, deque: DequeId) -> Res
         return_answered(row, seat, deque, list, lane);
         return Err(ActRefused::Over(end));
     }
-    let short = Noting::Found(Stop::OutOfMemory);
-    match close_period(row, seat, deque, list, lane, short) {
+    match close_period(row, seat, deque, list, lane) {
         Ok(()) => Ok(()),
         Err(_) => Err(ActRefused::Stopped(Stop::OutOfMemory)),
     }

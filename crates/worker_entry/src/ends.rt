@@ -1,21 +1,27 @@
 //! How a hall is closed.
 
-ghost use Rattle.std.specs.Prelude.{◌≡◌, ◌<◌, None, Some, IfErr, MatchResult};
+ghost use Rattle.std.specs.Prelude.{◌≡◌, ◌≢◌, ◌<◌, Err, None, Some, IfErr, MatchResult};
+ghost use Rattle.hall_slots.specs.Closing.{IsClosed};
+ghost use Rattle.hall_slots.specs.declared.list_slot.ListSlot.{ListSlot as AnyList};
+ghost use Rattle.hall_slots.specs.declared.pool_slot.PoolSlot.{PoolSlot as AnyPool};
+ghost use Rattle.owner_events.specs.Yielding.{IsNotHeld, MayBeOver};
 ghost use Rattle.play_rules.specs.declared.ends.RunEnd.{RunEnd as AnyEnd};
-ghost use Rattle.worker_entry.specs.Closing.{Closes, ClosesAlone, GivesClosing, MayHaveEnded};
+ghost use Rattle.play_rules.specs.declared.stop.Stop.TheVariants.{OutOfMemory as NoMemory};
+ghost use Rattle.turn_table.specs.Tables.{key_of};
+ghost use Rattle.worker_entry.specs.Closing.{Closes, ClosesAlone, GivesClosing, LetsGoOf, MayHaveEnded};
 ghost use Rattle.worker_entry.specs.Seated.{IsIn};
 
 use crate::closing::Closing;
 use crate::hall::Hall;
-use crate::leaving::let_go;
 use crate::refused::CloseRefused;
 use crate::seat::Seat;
 use dag_order::ThreadId;
 use deque_list::DequeId;
 use dfd_core::root_of;
-use hall_slots::{ClosedHall, ListSlot, PoolSlot, close, see_end};
+use hall_slots::{ClosedHall, ListSlot, PoolSlot, close, close_at, see_end};
 use list_changes::ListPart;
-use owner_events::YieldRefused;
+use owner_events::{LastRefused, close_deque, stop_then};
+use play_rules::{RunEnd, Stop};
 
 /// What is left of a hall that is closed.
 fn closing_of(closed: ClosedHall) -> Closing
@@ -63,6 +69,68 @@ impl Hall {
     }
 }
 
+/// Gives the deque of a seat up where an end is kept, for a seat that has all places.
+///
+/// # Errors
+///
+/// No end is kept, or there is not enough memory, which the seat notes as its stop if it had found none.
+fn let_go(hall: &Hall, seat: &mut Seat) -> Result<RunEnd, LastRefused>
+    requires here { IsIn hall.now seat.old }
+    requires owns { (deque : DequeId) × (seat.old.owned ≡ Some deque) }
+    requires calm { seat.old.stop ≢ Some NoMemory }
+    ensures here { IsIn hall.now seat.new }
+    ensures seat { LetsGoOf seat.old result seat.new }
+    ensures told { (end : AnyEnd) → seat.old.place.hand.note.answered ≡ Some end → MatchResult result (λ kept. kept ≡ end) MayBeOver }
+    ensures lone { seat.old.places ≡ hall.now.workers → IsNotHeld result }
+{
+    let Some(deque) = seat.owned else {
+        unreachable!();
+    };
+    match close_deque(&hall.row, &mut seat.place, deque, seat.stop) {
+        Ok(end) => {
+            seat.owned = None;
+            Ok(end)
+        }
+        Err(LastRefused::OutOfMemory) => {
+            seat.stop = Some(stop_then(seat.stop));
+            Err(LastRefused::OutOfMemory)
+        }
+        Err(LastRefused::NotOver) => Err(LastRefused::NotOver),
+        Err(LastRefused::Busy(held)) => Err(LastRefused::Busy(held)),
+    }
+}
+
+/// What is left of a hall whose last seat owns no deque and was answered this end.
+fn close_over(hall: Hall, last: Seat, end: RunEnd) -> Closing
+    requires here { IsIn hall last }
+    requires idle { last.owned ≡ None }
+    requires alone { last.places ≡ hall.workers }
+    requires answered { last.place.hand.note.answered ≡ Some end }
+    ensures { (list : AnyList) × (pool : AnyPool) × IsClosed (key_of hall.row) last.place list pool result.end
+        × GivesClosing list pool result.end result × (result.end ≡ end) }
+{
+    let Hall { row, .. } = hall;
+    let Seat { place, .. } = last;
+    closing_of(close_at(row, place, end))
+}
+
+/// Why a hall is not closed by a seat that owns a deque and has found lack of memory.
+fn close_short(hall: Hall, last: Seat) -> (Hall, Seat, CloseRefused)
+    requires here { IsIn hall last }
+    requires short { last.stop ≡ Some NoMemory }
+    requires alone { last.places ≡ hall.workers }
+    ensures closed { Closes hall last (Err result) }
+    ensures told { (end : AnyEnd) → last.place.hand.note.answered ≡ Some end → MayHaveEnded result.2 }
+    ensures here { IsIn result.0 result.1 }
+{
+    let mut last = last;
+    match see_end(&hall.row, &mut last.place) {
+        Ok(Some(_)) => (hall, last, CloseRefused::OutOfMemory),
+        Ok(None) => (hall, last, CloseRefused::NotOver),
+        Err(_) => unreachable!(),
+    }
+}
+
 /// What `close` does once the seat is the only one, if it owns a deque.
 fn close_owner(hall: Hall, last: Seat) -> Result<Closing, (Hall, Seat, CloseRefused)>
     requires here { IsIn hall last }
@@ -73,16 +141,15 @@ fn close_owner(hall: Hall, last: Seat) -> Result<Closing, (Hall, Seat, CloseRefu
         → MatchResult result (λ closing. closing.end ≡ end) (λ back. MayHaveEnded back.2) }
     ensures here { IfErr result (λ back. IsIn back.0 back.1) }
 {
-    let mut last = last;
-    match see_end(&hall.row, &mut last.place) {
-        Ok(Some(_)) => (),
-        Ok(None) => return Err((hall, last, CloseRefused::NotOver)),
-        Err(_) => unreachable!(),
+    if let Some(Stop::OutOfMemory) = last.stop {
+        return Err(close_short(hall, last));
     }
+    let mut last = last;
     match let_go(&hall, &mut last) {
-        Ok(()) => close_alone(hall, last),
-        Err(YieldRefused::OutOfMemory) => Err((hall, last, CloseRefused::OutOfMemory)),
-        Err(YieldRefused::Busy(_)) => unreachable!(),
+        Ok(end) => Ok(close_over(hall, last, end)),
+        Err(LastRefused::NotOver) => Err((hall, last, CloseRefused::NotOver)),
+        Err(LastRefused::OutOfMemory) => Err((hall, last, CloseRefused::OutOfMemory)),
+        Err(LastRefused::Busy(_)) => unreachable!(),
     }
 }
 

@@ -1,9 +1,10 @@
 //! How a worker gives its deque up, and how it leaves.
 
-ghost use Rattle.std.specs.Prelude.{◌≡◌, None, Some, IfErr};
-ghost use Rattle.play_rules.specs.declared.stop.Stop.{Stop as AnyStop};
-ghost use Rattle.owner_events.specs.Yielding.{stop_then, IsNotBusy as IsNotHeldUp};
-ghost use Rattle.worker_entry.specs.Leaving.{GivesUpIn, KeepsItsStop, LeavesHall, LeavesIdle, LetsGoOf};
+ghost use Rattle.std.specs.Prelude.{◌≡◌, ◌≢◌, None, Some, IfErr, OnErr, OnOk};
+ghost use Rattle.hall_slots.specs.Leaving.{HasGone};
+ghost use Rattle.play_rules.specs.declared.stop.Stop.TheVariants.{OutOfMemory as NoMemory};
+ghost use Rattle.turn_table.specs.Tables.{IsSeatOf};
+ghost use Rattle.worker_entry.specs.Leaving.{GivesUpIn, KeepsItsStop, LeavesHall, LeavesIdle, LeavesOwner};
 ghost use Rattle.worker_entry.specs.Seated.{IsIn};
 ghost use Rattle.worker_entry.specs.Thieves.{IsNotBusy};
 
@@ -11,8 +12,8 @@ use crate::hall::Hall;
 use crate::refused::{EventRefused, LeaveRefused};
 use crate::seat::Seat;
 use deque_list::DequeId;
-use hall_slots::{Event, leave};
-use owner_events::{ActRefused, YieldRefused, give_up_deque, yield_deque};
+use hall_slots::{Event, join, leave};
+use owner_events::{ActRefused, YieldRefused, give_up_deque, leave_deque, stop_then};
 use play_rules::Stop;
 
 impl Hall {
@@ -50,14 +51,14 @@ impl Hall {
         }
     }
 
-    /// Lets the worker of a seat leave: a deque that it owns is given up, also where an end is kept, the stop that it found is kept in the list
-    /// unless an end is, and `into` has its places besides its own.
+    /// Lets the worker of a seat leave: a deque that it owns is given up by the same put back, also where an end is kept, the stop that it found is
+    /// kept in the list unless an end is, and `into` has its places besides its own.
     ///
     /// # Errors
     ///
-    /// Another seat holds the lane of the deque or the list: the seat comes back, and it may have given its deque up. Or it owns a deque and there
-    /// is not enough memory to give it up: now, or when the seat found this, since then its top thread may be in the middle of a statement. Then
-    /// the list keeps the stop that the seat had found, or this one, unless an end is kept.
+    /// Another seat holds the lane of the deque or the list: the seat comes back as it was. Or it owns a deque and there is not enough memory to give
+    /// it up: now, or when the seat found this, since then its top thread may be in the middle of a statement. Then the list keeps the stop that the
+    /// seat had found, or this one, unless an end is kept.
     pub fn leave(&self, seat: Seat, into: &mut Seat) -> Result<(), (Seat, LeaveRefused)>
         requires here { IsIn self.now seat }
         requires into { IsIn self.now into.old }
@@ -72,62 +73,43 @@ impl Hall {
     }
 }
 
-/// The stop of a seat that is refused memory: the one that it had found, and else this.
-fn stop_then(found: Option<Stop>) -> Stop
-    ensures { result ≡ stop_then found }
-{
-    match found {
-        Some(stop) => stop,
-        None => Stop::OutOfMemory,
-    }
-}
-
-/// Gives the deque of a seat up, also where an end is kept.
-///
-/// # Errors
-///
-/// Another seat holds the lane of the deque or the list (never, if this one has all places), or there is not enough memory: now, which the seat
-/// notes as its stop if it had found none, or when it found this.
-pub(crate) fn let_go(hall: &Hall, seat: &mut Seat) -> Result<(), YieldRefused>
-    requires here { IsIn hall.now seat.old }
-    requires owns { (deque : DequeId) × (seat.old.owned ≡ Some deque) }
-    ensures here { IsIn hall.now seat.new }
-    ensures seat { LetsGoOf seat.old seat.new result }
-    ensures lone { seat.old.places ≡ hall.now.workers → IsNotHeldUp result }
-{
-    if let Some(Stop::OutOfMemory) = seat.stop {
-        return Err(YieldRefused::OutOfMemory);
-    }
-    let Some(deque) = seat.owned else {
-        unreachable!();
-    };
-    match yield_deque(&hall.row, &mut seat.place, deque, seat.stop) {
-        Ok(()) => {
-            seat.owned = None;
-            Ok(())
-        }
-        Err(YieldRefused::Busy(held)) => Err(YieldRefused::Busy(held)),
-        Err(YieldRefused::OutOfMemory) => {
-            seat.stop = Some(stop_then(seat.stop));
-            Err(YieldRefused::OutOfMemory)
-        }
-    }
-}
-
-/// Keeps the stop of a seat in the list, unless an end is kept, for want of memory to give its deque up.
+/// Keeps the stop of a seat in the list, unless an end is kept, for lack of memory to give its deque up.
 fn keep_stop(hall: &Hall, seat: Seat) -> (Seat, LeaveRefused)
     requires here { IsIn hall.now seat }
-    requires found { (stop : AnyStop) × (seat.stop ≡ Some stop) }
+    requires short { seat.stop ≡ Some NoMemory }
     ensures here { IsIn hall.now result.0 }
     ensures seat { KeepsItsStop seat result }
 {
     let mut seat = seat;
-    let Some(stop) = seat.stop else {
-        unreachable!();
-    };
-    match hall.halt(&mut seat, stop) {
+    match hall.halt(&mut seat, Stop::OutOfMemory) {
         Ok(_) => (seat, LeaveRefused::OutOfMemory),
         Err(held) => (seat, LeaveRefused::Busy(held)),
+    }
+}
+
+/// Gives the deque of a seat up and lets its worker leave, by one put back.
+///
+/// # Errors
+///
+/// Another seat holds the lane of the deque or the list, or there is not enough memory to give the deque up.
+fn leave_with_deque(hall: &Hall, seat: &mut Seat) -> Result<(), LeaveRefused>
+    requires here { IsIn hall.now seat.old }
+    requires owns { (deque : DequeId) × (seat.old.owned ≡ Some deque) }
+    requires calm { seat.old.stop ≢ Some NoMemory }
+    ensures here { OnErr result (IsIn hall.now seat.new) }
+    ensures gone { OnOk result (HasGone seat.new.place × IsSeatOf hall.now.row seat.new.place) }
+    ensures seat { LeavesOwner seat.old result seat.new }
+{
+    let Some(deque) = seat.owned else {
+        unreachable!();
+    };
+    match leave_deque(&hall.row, &mut seat.place, deque, seat.worker, seat.stop) {
+        Ok(()) => Ok(()),
+        Err(YieldRefused::Busy(held)) => Err(LeaveRefused::Busy(held)),
+        Err(YieldRefused::OutOfMemory) => {
+            seat.stop = Some(stop_then(seat.stop));
+            Err(LeaveRefused::OutOfMemory)
+        }
     }
 }
 
@@ -140,15 +122,22 @@ fn leave_owner(hall: &Hall, seat: Seat, into: &mut Seat) -> Result<(), (Seat, Le
     ensures here { IfErr result (λ back. IsIn hall.now back.0) }
     ensures seat { LeavesHall hall.now seat into.old into.new result }
 {
+    if let Some(Stop::OutOfMemory) = seat.stop {
+        return Err(keep_stop(hall, seat));
+    }
     let mut seat = seat;
-    match let_go(hall, &mut seat) {
-        Ok(()) => leave_idle(hall, seat, into),
-        Err(YieldRefused::Busy(held)) => Err((seat, LeaveRefused::Busy(held))),
-        Err(YieldRefused::OutOfMemory) => Err(keep_stop(hall, seat)),
+    match leave_with_deque(hall, &mut seat) {
+        Ok(()) => {
+            let Seat { place, places, .. } = seat;
+            join(&hall.row, &mut into.place, place);
+            into.places += places.min(hall.workers - into.places);
+            Ok(())
+        }
+        Err(why) => Err((seat, why)),
     }
 }
 
-/// What `leave` does once the seat owns no deque.
+/// What `leave` does of a seat that owns no deque.
 fn leave_idle(hall: &Hall, seat: Seat, into: &mut Seat) -> Result<(), (Seat, LeaveRefused)>
     requires here { IsIn hall.now seat }
     requires into { IsIn hall.now into.old }

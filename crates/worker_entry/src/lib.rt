@@ -16,21 +16,22 @@
 //!   would stop, so the compiler asks for a steal or a put back.
 //! - **A seat that had found a stop may hold the list.** Its steal puts the list back and answers this stop, as a steal in one call does, also
 //!   if an end is kept there.
-//! - **An owner leaves in two steps**: it gives its deque up, and then it leaves as an idle worker does. Between the two the hall is in a
-//!   running state, so nothing has to be said of it twice. If the second step is refused, the seat comes back without its deque.
+//! - **An owner leaves by one put back**: it takes its lane and the list, gives its deque up, takes its worker out of the crew and keeps its stop
+//!   there, and all of this shows from the put back of the list on. So a seat that is refused a slot comes back as it was, and the moment of
+//!   the hall is what it was.
 //! - **A give up that nothing asks for runs no statement of the thread on top**, so a worker whose run was stopped can leave. Only a worker
 //!   that found too little memory keeps its deque: its top thread may be in the middle of a statement.
 //! - **`give_up` is refused where an end is kept, the give up of `leave` and of `close` is not.** An event of a seat is `Over` then. A worker
-//!   has to leave also then, so it gives its deque up by another call (`yield_deque` of `owner_events`).
+//!   has to leave also then, so it gives its deque up by other calls (`leave_deque` and `close_deque` of `owner_events`).
 //! - **If there is not enough memory, `give_up` stops as `act` does**: the seat notes the stop, and the list does not keep it yet. The next
 //!   `halt` of the seat keeps it, or its `leave`.
-//! - **A worker that has not enough memory to leave halts**: `leave` then keeps the stop of the seat by its `halt`, so the seat is answered the
-//!   end that is kept. So the contract shows that one is. If the list is held by another seat, the answer is `Busy`.
+//! - **A worker that has not enough memory to leave keeps its stop by the same put back**, and is answered the end that is kept then. So the
+//!   contract shows that one is. A seat that had found this before takes the list alone, as a `halt` does, since its lane is not to be given up.
 //! - **`leave` asks nothing of the places of the two seats.** The places of all seats are those of the workers, so two seats have no more. But
 //!   no call tells this of two seats at once, so the clause says how many places there are with the bound that is never met (`places_with` of
 //!   `hall_slots`), and the code has it too. A caller that has kept the sum of its seats knows that they are those of both.
-//! - **A hall is closed also by a seat that owns a deque.** It looks for the end before it gives the deque up, so where none is kept the moment
-//!   of the hall is what it was.
+//! - **A hall is closed also by a seat that owns a deque.** It looks for the end in the list that it has taken, and gives the deque up in the same
+//!   hold. So where none is kept the moment of the hall is what it was, and the end that it was answered is the one of the run.
 #![tactic(auto)]
 
 mod calls;

@@ -3,7 +3,6 @@ use Rattle.turn_table.specs.Tables.{key_of}
 use Rattle.hall_slots.specs.Lists.{answered_note}
 use Rattle.hall_slots.specs.declared.seat_note.SeatNote.{SeatNote}
 use Rattle.play_rules.specs.declared.stop.Stop.TheVariants.{OutOfMemory}
-use Rattle.owner_acts.proofs.Passed.Noting.{memory_may_be_noted}
 use Rattle.owner_events.specs.Holding.{found_note}
 use Rattle.owner_events.specs.Yielding.{yielded_note}
 use Rattle.owner_events.proofs.Yielded as yielded
@@ -29,13 +28,10 @@ pub close_period-requires-clause-both : goal.close_period-requires-clause-both
 close_period-requires-clause-both c = yielded.has_both c.args.seat.now c.take_both.new.seat c.args.deque c.in-Ok.taken.0 c.in-Ok.taken.1 c.in-Ok.ensures.seat
     (key_of c.args.row.now) (yielded.come_may_yield c.args.seat.now c.args.deque c.requires.may) c.in-Ok.ensures.meets
 
-pub close_period-requires-clause-short : goal.close_period-requires-clause-short
-close_period-requires-clause-short c was =
-    let both = yielded.has_both c.args.seat.now c.take_both.new.seat c.args.deque c.in-Ok.taken.0 c.in-Ok.taken.1 c.in-Ok.ensures.seat
-    (key_of c.args.row.now) (yielded.come_may_yield c.args.seat.now c.args.deque c.requires.may) c.in-Ok.ensures.meets in
-    memory_may_be_noted (key_of c.args.row.now) c.take_both.new.seat c.args.deque was both.may
-    (ap (λ (n : SeatNote). n.found) (yielded.noted c.args.seat.now c.take_both.new.seat c.args.deque c.in-Ok.taken.0 c.in-Ok.taken.1 c.in-Ok.ensures.seat)
-    ∙ c.requires.may.none)
+pub close_period-requires-clause-none : goal.close_period-requires-clause-none
+close_period-requires-clause-none c =
+    ap (λ (n : SeatNote). n.found) (yielded.noted c.args.seat.now c.take_both.new.seat c.args.deque c.in-Ok.taken.0 c.in-Ok.taken.1 c.in-Ok.ensures.seat)
+    ∙ c.requires.may.none
 
 pub returns-in-Ok-close_period-clause-seat : goal.returns-in-Ok-close_period-clause-seat
 returns-in-Ok-close_period-clause-seat c = (
