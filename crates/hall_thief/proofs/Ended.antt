@@ -24,7 +24,8 @@ use Rattle.hall_thief.specs.Stealing.{HasStolenIn}
 use Rattle.hall_slots.specs.Stopping.{found_note, HasStopped}
 use Rattle.hall_thief.specs.declared.refused.StealRefused.{StealRefused}
 use Rattle.hall_thief.specs.declared.refused.StealRefused.TheVariants.{Busy, Nothing, Over, Stopped}
-use Rattle.hall_thief.specs.Prey.{EndsWith, IsItsStop, LeavesWith, StealsWith}
+use Rattle.play_rules.specs.declared.stop.Stop.{Stop}
+use Rattle.hall_thief.specs.Prey.{EndsWith, IsItsStop, LeavesWith, StealsWith, TakesNext}
 
 -- the seat notes this, was told this besides, and holds these slots
 abbrev pub NowHolds : HallSeat → SeatNote → List (Look Slot) → List (ℕ × Slot) → HallSeat → Type 0
@@ -158,6 +159,7 @@ module _ (list : ListSlot) (victim : Place) (lane : LaneSlot) (id : DequeId) (ne
   ends_steal (Err (Stopped stop)) ends = (
     Took (id.0 + 2) (slots.Lane new) ∷ [],
     subst (IsItsStop list lane) (sym ends.0) (λ many. few many.1),
-    inr (id, record { two = two; next = next; few = few; new = new; told = refl }),
+    subst (λ (s : Stop). TakesNext list lane s (Took (id.0 + 2) (slots.Lane new) ∷ [])) (sym ends.0)
+        (inr (id, record { two = two; next = next; few = few; new = new; told = refl })),
     took_then (λ n. found_note n stop) ends.1,
   )

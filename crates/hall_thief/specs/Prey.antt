@@ -97,9 +97,13 @@ pub record IsNewHeld (list : ListSlot) (lane : LaneSlot) (held : Held) : Type 0 
   pub few : length list.part.order.places ≢ list.part.order.most
   pub its_lane : held.slot ≡ id.0 + 2
 
--- the lanes that it took after that of its victim: none, or that of the next free deque, where the victim keeps other threads
-abbrev pub MayTakeNext : ListSlot → LaneSlot → List (Look Slot) → Type 0
-MayTakeNext list lane more = (more ≡ []) ⊎ ((id : DequeId) × TakesBottom list lane id more)
+-- The lanes that it took after that of its victim, before it met this stop: none if one deque would be too many, or if the victim has one thread;
+-- and else that of the next free deque.
+abbrev pub TakesNext : ListSlot → LaneSlot → Stop → List (Look Slot) → Type 0
+TakesNext list lane (ArenaFull live asked) more = ⊥
+TakesNext list lane (DequesFull deques) more = more ≡ []
+TakesNext list lane (StepsSpent limit) more = ⊥
+TakesNext list lane OutOfMemory more = ((length lane.lane.items < 2) × (more ≡ [])) ⊎ ((id : DequeId) × TakesBottom list lane id more)
 
 -- How it is with a thief that held this list and the lane of its victim: it stole, was refused the lane of a new deque, or met a stop.
 abbrev pub StealsWith : ListSlot → Place → LaneSlot → HallSeat → HallSeat → Result Event StealRefused → Type 0
@@ -110,7 +114,7 @@ StealsWith list victim lane before after (Err (Busy held)) =
 StealsWith list victim lane before after (Err Nothing) = ⊥
 StealsWith list victim lane before after (Err (Over end)) = ⊥
 StealsWith list victim lane before after (Err (Stopped stop)) =
-    (more : List (Look Slot)) × IsItsStop list lane stop × MayTakeNext list lane more
+    (more : List (Look Slot)) × IsItsStop list lane stop × TakesNext list lane stop more
     × LeavesWith before (found_note before.hand.note stop) more after
 
 -- So it is with one that held the lane of the new deque too: it stole, or memory was wanting.

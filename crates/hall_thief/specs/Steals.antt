@@ -20,7 +20,7 @@ use Rattle.hall_thief.specs.declared.prey.SeekRefused.TheVariants as sought
 use Rattle.hall_slots.specs.Stopping.{found_note}
 use Rattle.hall_thief.specs.declared.refused.StealRefused.{StealRefused}
 use Rattle.hall_thief.specs.declared.refused.StealRefused.TheVariants.{Busy, Nothing, Over, Stopped}
-use Rattle.hall_thief.specs.Prey.{IsItsStop, IsNewHeld, LeavesStolen, LeavesWith, MayTakeNext, StealsInto}
+use Rattle.hall_thief.specs.Prey.{IsItsStop, IsNewHeld, LeavesStolen, LeavesWith, TakesNext, StealsInto}
 
 -- The list that the seat took keeps no end, and these are its answers at the lanes that it tried then, in the order of its turns. They show the
 -- deque that its word picks, which is at this place of the list; the last of them is its lane.
@@ -59,7 +59,7 @@ pub record HasMetStop (workers word : ℕ) (before : HallSeat) (stop : Stop) (af
   pub finds : Finds workers word list seen place victim lane
   pub its_stop : IsItsStop list lane stop
   pub more : List (Look Slot)
-  pub takes : MayTakeNext list lane more
+  pub takes : TakesNext list lane stop more
   pub leaves : LeavesWith before (found_note before.hand.note stop) (all_told list seen more) after
 
 -- It found a victim that keeps other threads, and was refused the lane of the next free deque. It has these answers besides, and is else

@@ -44,7 +44,7 @@ pub returns-in-Err-clause-seat : goal.returns-in-Err-clause-seat
 returns-in-Err-clause-seat c = (
   [],
   (λ many. let few = c.requires.one in let two = many.0 in omega (arith, few, two)),
-  inl refl,
+  inl (c.requires.one, refl),
   stopped_two c.args.seat.now c.put_stopped.new.seat c.give_lane_back.new.seat _ c.args.victim.id.0 (slots.Lane c.args.lane) (slots.List c.args.list)
       (held_two (key_of c.args.row.now) c.args.list c.args.place c.args.lane c.args.seat.now c.requires.prey c.args.victim c.requires.victim) c.put_stopped.ensures.seat c.give_lane_back.ensures.seat,
 )

@@ -1,4 +1,4 @@
-use Rattle.std.proofs.Common.{◌+◌, ◌<◌, [], inl, refl, subst, sym}
+use Rattle.std.proofs.Common.{◌+◌, ◌<◌, [], refl, subst, sym}
 use Rattle.turn_table.specs.Tables.{key_of}
 use Rattle.turn_table.proofs.Standing.{slots_of_seat}
 use Rattle.play_rules.specs.declared.stop.Stop.TheVariants.{DequesFull}
@@ -20,7 +20,7 @@ pub returns : goal.returns
 returns c = (
   [],
   (c.requires.full, c.most_deques.ensures),
-  inl refl,
+  refl,
   stopped_two c.args.seat.now c.put_stopped.new.seat c.give_lane_back.new.seat _ c.args.victim.id.0 (slots.Lane c.args.lane) (slots.List c.args.list)
       (held_two (key_of c.args.row.now) c.args.list c.args.place c.args.lane c.args.seat.now c.requires.prey c.args.victim c.requires.victim) c.put_stopped.ensures.seat c.give_lane_back.ensures.seat,
 )
