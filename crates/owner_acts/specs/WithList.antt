@@ -3,13 +3,14 @@ use Rattle.std.specs.Prelude.{◌≡◌, ℕ, ◌≤◌, Bool, true, false, Opti
 use Rattle.dag_order.specs.Births.{root}
 use Rattle.dag_order.specs.declared.action_id.ActionId.{ActionId}
 use Rattle.deque_list.specs.declared.deque_id.DequeId.{DequeId}
+use Rattle.hall_deciding.specs.Passed.Acts.{next_name}
 use Rattle.hall_deciding.specs.EventParts.{IsNext, IsTooMuch, MayGoOn}
 use Rattle.hall_deciding.specs.Passed.Joins.{released}
 use Rattle.hall_deciding.specs.Rooms.{HasMoreBooks, HasMoreToLeave, HasMoreToWait}
 use Rattle.hall_deciding.specs.Taken.{list_and_lane}
 use Rattle.hall_slots.specs.Takes.{HallSeat}
 use Rattle.hall_slots.specs.declared.event.Event.{Event}
-use Rattle.hall_slots.specs.declared.event.Event.TheVariants.{Did, Suspended, GaveUp}
+use Rattle.hall_slots.specs.declared.event.Event.TheVariants.{Stole, Did, Suspended, GaveUp, Halted}
 use Rattle.hall_slots.specs.declared.key.HallKey.{HallKey}
 use Rattle.hall_slots.specs.declared.list_slot.ListSlot.{ListSlot}
 use Rattle.owner_advance.specs.declared.at_next.AtNext.{AtNext}
@@ -88,3 +89,11 @@ IsNotedFor (Wait child) deque top event owned = (event ≡ Suspended (Thread.id 
 IsNotedFor Dummy deque top event owned = (name : ActionId) × (event ≡ Did name) × (owned ≡ None)
 IsNotedFor (Join child) deque top event owned = (name : ActionId) × (event ≡ Did name) × (owned ≡ Some deque)
 IsNotedFor RootEnd deque top event owned = (name : ActionId) × (event ≡ Did name) × (owned ≡ None)
+
+-- an action that it notes has the name of the next action of the thread
+abbrev pub IsNamedAs : Thread → Event → Type 0
+IsNamedAs top (Stole deque period) = Unit {0}
+IsNamedAs top (Did name) = name ≡ next_name top
+IsNamedAs top (Suspended thread) = Unit {0}
+IsNamedAs top (GaveUp deque) = Unit {0}
+IsNamedAs top (Halted end) = Unit {0}

@@ -8,6 +8,7 @@ ghost use Rattle.thread_frames.specs.Views.{next_of, children_of, newest, join_w
 ghost use Rattle.thread_frames.specs.declared.next.Next.TheVariants as nexts;
 ghost use Rattle.turn_table.specs.Tables.{key_of, slot_count, IsSeatOf};
 ghost use Rattle.hall_slots.specs.declared.event.Event.TheVariants.{Did};
+ghost use Rattle.hall_deciding.specs.Passed.Acts.{next_name};
 ghost use Rattle.hall_deciding.specs.Writes.{told_note};
 ghost use Rattle.hall_deciding.specs.Puts.{HasPut};
 ghost use Rattle.hall_deciding.specs.EventParts.{MayAct, IsNext};
@@ -41,6 +42,7 @@ pub fn act_own_join(
     requires listed { (child : ThreadId) × IsNext (key_of row.now) top (nexts.Join child) }
     requires none { entries first.old ≡ [] }
     ensures seat { HasPut seat.old (told_note seat.old.hand.note (Some deque) (Did result)) [] seat.new }
+    ensures name { result ≡ next_name top }
     ensures none { entries first.new ≡ [] }
 {
     let mut lane = lane;

@@ -12,6 +12,7 @@ ghost use Rattle.hall_slots.specs.Keys.{table_of, quota_of};
 ghost use Rattle.hall_slots.specs.Takes.{HallSeat};
 ghost use Rattle.hall_slots.specs.declared.event.Event.TheVariants.{Did};
 ghost use Rattle.hall_slots.specs.declared.key.HallKey.{HallKey};
+ghost use Rattle.hall_deciding.specs.Passed.Acts.{next_name};
 ghost use Rattle.hall_deciding.specs.Passed.Here.{HasMovesFor, HasRoomHere};
 ghost use Rattle.hall_deciding.specs.Passed.ListCalls.{TakesWaiting, KeepsCrew};
 ghost use Rattle.hall_deciding.specs.Puts.{HasPut, MayPutAll};
@@ -89,6 +90,7 @@ fn do_with_all(
     ensures writes { (key : HallKey) (seat : HallSeat) → IsReadyForAll key seat deque list.old pool.old at (spare memory.old.births) event
         → MayPutAll key seat deque list.new pool.new result.0 (told_note seat.hand.note result.2 (Did result.1)) }
     ensures owned { result.2 ≡ owned_with event deque }
+    ensures name { result.1 ≡ next_name at.top }
     ensures none { entries memory.new.births ≡ [] }
 {
     let AtNext { lane, running, top } = at;
@@ -149,6 +151,7 @@ pub fn act_with_all(
     requires none { entries memory.old.births ≡ [] }
     ensures seat { HasPut seat.old (told_note seat.old.hand.note result.1 (Did result.0)) [] seat.new }
     ensures owned { result.1 ≡ owned_with event deque }
+    ensures name { result.0 ≡ next_name at.top }
     ensures none { entries memory.new.births ≡ [] }
 {
     let mut list = list;

@@ -19,7 +19,7 @@ ghost use Rattle.hall_deciding.specs.Passed.ListCalls.{SuspendsThere, KeepsCrew}
 ghost use Rattle.hall_deciding.specs.Puts.{HasPut, MayPutListAndLane};
 ghost use Rattle.hall_deciding.specs.Writes.{told_note};
 ghost use Rattle.owner_acts.specs.Pauses.{CanClose};
-ghost use Rattle.owner_acts.specs.WithList.{is_action, HasMoreFor, HasRoomFor, IsNotedFor, IsReadyForList, IsWithList};
+ghost use Rattle.owner_acts.specs.WithList.{is_action, HasMoreFor, HasRoomFor, IsNamedAs, IsNotedFor, IsReadyForList, IsWithList};
 
 use crate::results::{hand_over_in, id_of, leave_in};
 use containers::Boxed;
@@ -157,6 +157,7 @@ fn do_with_list(
     ensures writes { (key : HallKey) (seat : HallSeat) → IsReadyForList key seat deque list.old at (spare memory.old.births) event
         → MayPutListAndLane key seat deque list.new result.0 (told_note seat.hand.note result.2 result.1) }
     ensures notes { IsNotedFor event deque at.top result.1 result.2 }
+    ensures named { IsNamedAs at.top result.1 }
     ensures none { entries memory.new.births ≡ [] }
 {
     let AtNext { lane, running, top } = at;
@@ -214,6 +215,7 @@ pub fn act_with_list(
     requires none { entries memory.old.births ≡ [] }
     ensures seat { HasPut seat.old (told_note seat.old.hand.note result.1 result.0) [] seat.new }
     ensures notes { IsNotedFor event deque at.top result.0 result.1 }
+    ensures named { IsNamedAs at.top result.0 }
     ensures none { entries memory.new.births ≡ [] }
 {
     let mut list = list;

@@ -14,6 +14,7 @@ ghost use Rattle.hall_slots.specs.declared.key.HallKey.{HallKey};
 ghost use Rattle.hall_slots.specs.Keys.{table_of, quota_of};
 ghost use Rattle.hall_slots.specs.Shown.{pool_shown};
 ghost use Rattle.hall_slots.specs.Sound.{PoolIsSound};
+ghost use Rattle.hall_deciding.specs.Passed.Acts.{next_name};
 ghost use Rattle.hall_deciding.specs.Passed.Here.{HasMovesFor, HasRoomHere, TakesWords};
 ghost use Rattle.hall_deciding.specs.Writes.{told_note};
 ghost use Rattle.hall_deciding.specs.Puts.{HasPut};
@@ -57,6 +58,7 @@ fn do_with_pool(
     requires back { words_back top next ≤ pool.old.pool.live }
     requires suits { IsWithPool next top lane.old.items }
     ensures does { DoesWithPool next charge top lane.old.items period.old lane.new.items period.new result }
+    ensures name { result ≡ next_name top }
     ensures words { TakesWords next top result (pool_shown pool.old) (pool_shown pool.new) }
     ensures sound { (key : HallKey) → PoolIsSound key pool.old → PoolIsSound key pool.new }
     ensures points { (key : HallKey) → IsAtPoint (table_of key) (quota_of key) top
@@ -111,6 +113,7 @@ pub fn act_with_pool(
     requires back { words_back at.top next ≤ pool.pool.live }
     requires suits { IsWithPool next at.top at.lane.items }
     ensures seat { HasPut seat.old (told_note seat.old.hand.note (Some deque) (Did result)) [] seat.new }
+    ensures name { result ≡ next_name at.top }
     ensures none { entries memory.new.births ≡ [] }
 {
     let AtNext { lane, running, top } = at;

@@ -6,6 +6,7 @@ ghost use Rattle.language_limits.specs.declared.TheConstants.{GREATEST_COUNT, GR
 ghost use Rattle.thread_frames.specs.Actions.{IsDummy};
 ghost use Rattle.thread_frames.specs.Points.{IsPlaced};
 ghost use Rattle.thread_frames.specs.Views.{next_of, done_of};
+ghost use Rattle.thread_actions.specs.Acts.{next_name};
 ghost use Rattle.part_events.specs.Here.{HasRoomHere};
 ghost use Rattle.part_events.specs.Dummies.{DummyHere};
 
@@ -31,6 +32,7 @@ pub fn do_dummy(
     requires none { entries first.old ≡ [] }
     requires fits { period.old.used ≤ GREATEST_QUOTA }
     ensures acts { DummyHere top lane.old.items period.old lane.new.items period.new result }
+    ensures name { result ≡ next_name top }
     ensures none { entries first.new ≡ [] }
 {
     let mut top = top;

@@ -16,6 +16,7 @@ ghost use Rattle.thread_frames.specs.declared.thread.Thread.{Thread as AnyThread
 ghost use Rattle.thread_actions.specs.Results.{FirstAwaits, IsGiven};
 ghost use Rattle.thread_frames.specs.Shown.{thread_shown, result_shown};
 ghost use Rattle.hall_slots.specs.Passed.Writing.{IsHanded};
+ghost use Rattle.thread_actions.specs.Acts.{next_name};
 ghost use Rattle.part_events.specs.Here.{HasRoomIn, HasMovesFor, TakesWords, pool_with};
 ghost use Rattle.part_events.specs.Ends.{EndsHere, EndsAbove};
 
@@ -66,6 +67,7 @@ pub fn end_forked(
     ensures words { TakesWords nexts.End top.old result.0 (pool_with pool.old.live moves.old) (pool_with pool.new.live moves.new) }
     ensures pool { pool.new ≡ with_given pool.old (words_at_end (label_of top.old)) }
     ensures sum { total_change (moves_list moves.new) ≡ pos pool.new.live }
+    ensures name { result.0 ≡ next_name top.old }
     ensures none { entries first.new ≡ [] }
 {
     let before = pool.live();
@@ -90,6 +92,7 @@ pub fn end_root(
     requires fits { period.old.used ≤ GREATEST_QUOTA }
     requires root { label_of top.old ≡ [] }
     ensures acts { EndsHere top.old period.old period.new result.0 result.1 }
+    ensures name { result.0 ≡ next_name top.old }
     ensures none { entries first.new ≡ [] }
 {
     let finished = end_done(top);
@@ -125,6 +128,7 @@ pub fn end_above(
     ensures words { TakesWords nexts.End top.old result (pool_with pool.old.live moves.old) (pool_with pool.new.live moves.new) }
     ensures pool { pool.new ≡ with_given pool.old (words_at_end (label_of top.old)) }
     ensures sum { total_change (moves_list moves.new) ≡ pos pool.new.live }
+    ensures name { result ≡ next_name top.old }
     ensures none { entries first.new ≡ [] }
 {
     let (name, ended) = end_forked(period, first, pool, moves, top);

@@ -13,6 +13,7 @@ ghost use Rattle.thread_frames.specs.Actions.{IsFork};
 ghost use Rattle.thread_frames.specs.Points.{IsPlaced};
 ghost use Rattle.thread_frames.specs.Views.{next_of, done_of};
 ghost use Rattle.thread_frames.specs.declared.next.Next.TheVariants as nexts;
+ghost use Rattle.thread_actions.specs.Acts.{next_name};
 ghost use Rattle.part_events.specs.Here.{HasRoomHere, HasMovesFor, TakesWords, pool_with};
 ghost use Rattle.part_events.specs.Forks.{ForksHere, GoBothOnTop};
 
@@ -91,6 +92,7 @@ pub fn do_fork(
     ensures pool { pool.new ≡ with_taken pool.old record_words }
     ensures sum { total_change (moves_list moves.new) ≡ pos pool.new.live }
     ensures top { GoBothOnTop top lane.old.items lane.new.items }
+    ensures name { result ≡ next_name top }
     ensures none { entries first.new ≡ [] }
 {
     let before = pool.live();

@@ -11,6 +11,7 @@ ghost use Rattle.thread_frames.specs.Actions.{IsJoin, is_there};
 ghost use Rattle.thread_frames.specs.Points.{IsPlaced};
 ghost use Rattle.thread_frames.specs.Views.{next_of, done_of, children_of, newest, join_words_of};
 ghost use Rattle.thread_frames.specs.declared.next.Next.TheVariants as nexts;
+ghost use Rattle.thread_actions.specs.Acts.{next_name};
 ghost use Rattle.part_events.specs.Here.{HasRoomHere, HasMovesFor, TakesWords, pool_with};
 ghost use Rattle.part_events.specs.Joins.{JoinsHere, ReleasesNothing};
 
@@ -42,6 +43,7 @@ pub fn do_join(
     requires fits { period.old.used ≤ GREATEST_QUOTA }
     ensures acts { JoinsHere top lane.old.items period.old lane.new.items period.new result }
     ensures words { ReleasesNothing top }
+    ensures name { result ≡ next_name top }
     ensures none { entries first.new ≡ [] }
 {
     let mut top = top;
@@ -73,6 +75,7 @@ pub fn do_join_giving(
     ensures words { (child : ThreadId) → TakesWords (nexts.Join child) top result (pool_with pool.old.live moves.old) (pool_with pool.new.live moves.new) }
     ensures pool { pool.new ≡ with_given pool.old (join_words_of top) }
     ensures sum { total_change (moves_list moves.new) ≡ pos pool.new.live }
+    ensures name { result ≡ next_name top }
     ensures none { entries first.new ≡ [] }
 {
     let before = pool.live();

@@ -11,7 +11,7 @@ ghost use Rattle.thread_frames.specs.Actions.{IsAlloc, IsRelease, IsFault};
 ghost use Rattle.thread_frames.specs.Points.{IsPlaced};
 ghost use Rattle.thread_frames.specs.Views.{next_of, words_asked, done_of, held_by};
 ghost use Rattle.thread_frames.specs.declared.next.Next.TheVariants as nexts;
-ghost use Rattle.thread_actions.specs.Acts.{AllocIsCharged, Always};
+ghost use Rattle.thread_actions.specs.Acts.{AllocIsCharged, Always, next_name};
 ghost use Rattle.part_events.specs.Here.{HasRoomHere, HasMovesFor, ActsHere, TakesWords, GoesOnTop, pool_with};
 
 use crate::moves::note_move;
@@ -50,6 +50,7 @@ pub fn do_alloc(
     ensures pool { pool.new ≡ with_taken pool.old (words_asked (next_of top)) }
     ensures sum { total_change (moves_list moves.new) ≡ pos pool.new.live }
     ensures top { GoesOnTop top lane.old.items lane.new.items }
+    ensures name { result ≡ next_name top }
     ensures none { entries first.new ≡ [] }
 {
     let before = pool.live();
@@ -85,6 +86,7 @@ pub fn do_release(
     ensures pool { pool.new ≡ with_given pool.old (words_asked (next_of top)) }
     ensures sum { total_change (moves_list moves.new) ≡ pos pool.new.live }
     ensures top { GoesOnTop top lane.old.items lane.new.items }
+    ensures name { result ≡ next_name top }
     ensures none { entries first.new ≡ [] }
 {
     let before = pool.live();
@@ -117,6 +119,7 @@ pub fn do_fault(
     ensures pool { pool.new ≡ with_given pool.old (held_by top) }
     ensures sum { total_change (moves_list moves.new) ≡ pos pool.new.live }
     ensures top { GoesOnTop top lane.old.items lane.new.items }
+    ensures name { result ≡ next_name top }
     ensures none { entries first.new ≡ [] }
 {
     let before = pool.live();

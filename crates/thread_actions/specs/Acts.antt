@@ -25,6 +25,7 @@ use Rattle.thread_frames.specs.declared.thread.Thread.{Thread}
 use Rattle.node_table.specs.Table.{Table}
 use Rattle.thread_frames.specs.Points.{IsAtPoint}
 use Rattle.thread_frames.specs.Shown.{thread_shown, result_shown}
+use Rattle.thread_frames.specs.Views.{done_of}
 use Rattle.list_changes.specs.Events.{DidAlone, DidDummy, DidJoin, DidFork, DidEnd}
 use Rattle.thread_actions.specs.declared.forked.Forked.{Forked}
 use Rattle.list_changes.specs.Shown.{deque_with, parts_of, Stands, Becomes, parts_under}
@@ -39,6 +40,10 @@ ActsBy next worker id top before table after behind Where =
     → Where k period (words_at (list_of c) (IsOfTheList.place is))
     → Does k (list_of c) (parts_under thread_shown waiting results stands table (thread_shown top)) worker (IsOfTheList.place is)
     (parts_of thread_shown waiting results after behind)
+
+-- the name of the next action of a thread
+abbrev pub next_name : Thread → ActionId
+next_name thread = record { by = thread.id; index = done_of thread }
 
 -- an Alloc may come, and takes so many words of the quota
 abbrev pub AllocIsCharged : (charged : ℕ) → ℕ → Period → ℕ → Type 0

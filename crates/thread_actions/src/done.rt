@@ -13,7 +13,7 @@ ghost use Rattle.thread_frames.specs.Points.{IsAtPoint, IsPlaced, IsResult};
 ghost use Rattle.thread_frames.specs.Views.{children_of, next_of, words_asked, done_of, held_by, join_words_of, newest, label_of, ended_label, recorded};
 ghost use Rattle.thread_frames.specs.declared.next.Next.TheVariants as nexts;
 ghost use Rattle.thread_frames.specs.declared.thread.Thread.{Thread as AnyThread};
-ghost use Rattle.thread_actions.specs.Acts.{ActedAlone, ActedDummy, ActedJoin, ActedFork, ActedEnd, AllocIsCharged, Always, StaysAtPoint};
+ghost use Rattle.thread_actions.specs.Acts.{ActedAlone, ActedDummy, ActedJoin, ActedFork, ActedEnd, AllocIsCharged, Always, StaysAtPoint, next_name};
 
 use crate::finished::Finished;
 use crate::forked::Forked;
@@ -27,6 +27,7 @@ use thread_frames::{ArenaFull, Place, Thread};
 pub fn name_of(thread: &Boxed<Thread>) -> ActionId
     ensures by { result.by ≡ AnyThread.id thread.now }
     ensures index { result.index ≡ done_of thread.now }
+    ensures name { result ≡ next_name thread.now }
 {
     ActionId {
         by: thread.get().id(),
@@ -49,6 +50,7 @@ pub fn alloc_done(top: &mut Boxed<Thread>, pool: &mut Pool) -> Result<ActionId, 
     ensures same_pool { OnErr result (pool.new ≡ pool.old) }
     ensures did { IfOk result (λ name. (charge : ℕ)
         → ActedAlone (nexts.Alloc (words_asked (next_of top.old))) charge (AllocIsCharged charge) top.old top.new name) }
+    ensures name { IfOk result (λ name. name ≡ next_name top.old) }
     ensures point { OnOk result (StaysAtPoint top.old top.new) }
     ensures pool { OnOk result (pool.new ≡ with_taken pool.old (words_asked (next_of top.old))) }
 {
@@ -64,6 +66,7 @@ pub fn release_done(top: &mut Boxed<Thread>, pool: &mut Pool) -> ActionId
     requires count { done_of top.old < GREATEST_COUNT }
     requires live { words_asked (next_of top.old) ≤ pool.old.live }
     ensures did { ActedAlone (nexts.Release (words_asked (next_of top.old))) 0 Always top.old top.new result }
+    ensures name { result ≡ next_name top.old }
     ensures point { StaysAtPoint top.old top.new }
     ensures pool { pool.new ≡ with_given pool.old (words_asked (next_of top.old)) }
 {
@@ -78,6 +81,7 @@ pub fn dummy_done(top: &mut Boxed<Thread>) -> ActionId
     requires next { IsDummy (next_of top.old) }
     requires count { done_of top.old < GREATEST_COUNT }
     ensures did { ActedDummy top.old top.new result }
+    ensures name { result ≡ next_name top.old }
     ensures point { StaysAtPoint top.old top.new }
 {
     let name = name_of(top);
@@ -92,6 +96,7 @@ pub fn fault_done(top: &mut Boxed<Thread>, pool: &mut Pool) -> ActionId
     requires count { done_of top.old < GREATEST_COUNT }
     requires live { held_by top.old ≤ pool.old.live }
     ensures did { (at : FaultAt) → ActedAlone (nexts.Fault at) 0 Always top.old top.new result }
+    ensures name { result ≡ next_name top.old }
     ensures point { StaysAtPoint top.old top.new }
     ensures pool { pool.new ≡ with_given pool.old (held_by top.old) }
 {
@@ -107,6 +112,7 @@ pub fn join_done(top: &mut Boxed<Thread>) -> Joined
     requires delivered { IsTrue (is_there (newest (children_of top.old))) }
     requires count { done_of top.old < GREATEST_COUNT }
     ensures did { ActedJoin top.old top.new result.name }
+    ensures name { result.name ≡ next_name top.old }
     ensures words { result.words ≡ join_words_of top.old }
     ensures rows { words_released result.rows ≡ join_words_of top.old }
     ensures point { StaysAtPoint top.old top.new }
@@ -135,6 +141,7 @@ pub fn fork_done(
     ensures same_top { OnErr result (top.new ≡ top.old) }
     ensures same_pool { OnErr result (pool.new ≡ pool.old) }
     ensures did { IfOk result (λ forked. ActedFork id top.old top.new forked) }
+    ensures name { IfOk result (λ forked. forked.name ≡ next_name top.old) }
     ensures by { IfOk result (λ forked. forked.name.by ≡ top.old.id) }
     ensures point { OnOk result (StaysAtPoint top.old top.new) }
     ensures child { IfOk result (λ forked. StaysAtPoint top.old forked.child) }
@@ -157,6 +164,7 @@ pub fn end_done(top: &mut Boxed<Thread>) -> Finished
     requires next { IsEnd (next_of top.old) }
     requires count { done_of top.old < GREATEST_COUNT }
     ensures did { ActedEnd top.old result.name result.ended }
+    ensures name { result.name ≡ next_name top.old }
     ensures id { result.ended.id ≡ top.old.id }
     ensures func { result.ended.func ≡ top.old.func }
     ensures label { ended_label result.ended ≡ label_of top.old }
