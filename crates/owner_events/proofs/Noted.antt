@@ -9,7 +9,7 @@ use Rattle.owner_acts.specs.Passed.AtNext.{AtNext}
 use Rattle.owner_acts.specs.Passed.NotingVariants.{Same}
 use Rattle.hall_slots.specs.Sound.{PoolIsSound}
 use Rattle.owner_acts.specs.WithAll.{owned_with}
-use Rattle.owner_acts.specs.WithList.{is_action, IsNotedFor}
+use Rattle.owner_acts.specs.WithList.{is_action, IsNamedAs, IsNotedFor}
 use Rattle.owner_acts.specs.declared.with_list.ListEvent.{ListEvent}
 use Rattle.owner_acts.specs.declared.with_list.ListEvent.TheVariants as listing
 use Rattle.owner_events.proofs.Showing.{LeavesNobody, lane_slots, list_owned, list_slots, named, noted_for, notes_it, owned_for, owned_with_pool}
@@ -137,9 +137,11 @@ module _ (key : HallKey) (deque : DequeId) (worker : ℕ) (at : AtNext) (next : 
 
   -- by what it saw it did the event
   pub decides_on : (taken : Taken) → IsAskedFor key worker at next taken → SoundIn key taken → NobodyIn at taken
-      → IsNotedOn taken deque at.top noted owned → (count : Option ℕ) → IsTakenIf (IsActionOf taken true) count → IsBelow key.actions count
+      → IsNotedOn taken deque at.top noted owned → IsNamedAs at.top noted → (count : Option ℕ) → IsTakenIf (IsActionOf taken true) count
+      → IsBelow key.actions count
       → Decides key deque at next (record { list = list_in taken; pool = pool_in taken; count = count }) noted owned
-  decides_on taken asked sound nobody notes count counts below = record {
+  decides_on taken asked sound nobody notes name count counts below = record {
+    named = name;
     slots = slots_on taken asked sound notes;
     counts = counts_if deque at.top noted owned taken notes count counts;
     below = below;

@@ -15,7 +15,7 @@ use Rattle.owner_acts.specs.Passed.Puts.{HasPut}
 use Rattle.owner_acts.specs.Passed.Taken.{its_lane, pool_and_lane, list_and_lane, all_three}
 use Rattle.owner_acts.specs.Passed.Writes.{told_note}
 use Rattle.owner_acts.specs.Quotas.{MayUse}
-use Rattle.owner_acts.specs.WithList.{is_action}
+use Rattle.owner_acts.specs.WithList.{is_action, IsNamedAs}
 use Rattle.owner_acts.specs.WithPool.{words_asked_by}
 use Rattle.owner_events.proofs.Failing.{fails_too}
 use Rattle.owner_events.proofs.Held.{all_pool, comes, is_ready, pool_held, with_pool}
@@ -182,12 +182,12 @@ module _ (key : HallKey) (seat : HallSeat) (deque : DequeId) (at : AtNext) (next
     })) drew
 
     pub done_on : (taken : Taken) → IsReadyFor key seat deque at next ready taken → (now : Taken) → HasPrepared key seat taken now middle
-        → (acted : Acted) (after : HallSeat) → IsNotedOn now deque at.top acted.event acted.owned
+        → (acted : Acted) (after : HallSeat) → IsNotedOn now deque at.top acted.event acted.owned → IsNamedAs at.top acted.event
         → HasPut middle (told_note middle.hand.note acted.owned acted.event) [] after
         → HasDoneWith key seat deque at next taken acted after
-    done_on taken r now p acted after notes put = record {
+    done_on taken r now p acted after notes name put = record {
       count = p.count;
       decides = decides_on key deque seat.hand.note.worker at next acted.event acted.owned taken r.asked (sound_in taken r) (nobody_in taken r)
-          (same_notes taken now p.more deque at.top acted.event acted.owned notes) p.count p.counts p.below;
+          (same_notes taken now p.more deque at.top acted.event acted.owned notes) name p.count p.counts p.below;
       leaves = left p.count p.drew acted after put;
     }

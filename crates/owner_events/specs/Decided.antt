@@ -10,6 +10,7 @@ use Rattle.hall_slots.specs.declared.key.HallKey.{HallKey}
 use Rattle.hall_slots.specs.declared.list_slot.ListSlot.{ListSlot}
 use Rattle.hall_slots.specs.declared.pool_slot.PoolSlot.{PoolSlot}
 use Rattle.owner_acts.specs.Passed.AtNext.{AtNext}
+use Rattle.owner_acts.specs.WithList.{IsNamedAs}
 use Rattle.owner_acts.specs.WithPool.{words_asked_by}
 use Rattle.thread_frames.specs.Children.{is_delivered}
 use Rattle.thread_frames.specs.Views.{children_of, join_words_of, label_of, released_by}
@@ -194,9 +195,11 @@ pub record Seen : Type 0 where
   pub pool : Option PoolSlot
   pub count : Option ℕ
 
--- By this it did the event: with the slots that it needs, with a count exactly for an action, below the limit of the hall; and it owns this deque then.
+-- By this it did the event: an action under the name of the next action of its thread; with the slots that it needs, with a count exactly for an
+-- action, below the limit of the hall; and it owns this deque then.
 pub record Decides (key : HallKey) (deque : DequeId) (at : AtNext) (next : Next) (seen : Seen) (event : Event) (owned : Option DequeId)
     : Type 0 where
+  pub named : IsNamedAs at.top event
   pub slots : HasItsSlots key deque at next seen.list seen.pool event
   pub counts : IsTakenIf (NeedsCount event) seen.count
   pub below : IsBelow key.actions seen.count

@@ -6,6 +6,7 @@ ghost use Rattle.thread_frames.specs.declared.next.Next.{Next as AnyNext};
 ghost use Rattle.turn_table.specs.Tables.{key_of, slot_count, IsSeatOf};
 ghost use Rattle.owner_acts.specs.Passed.Puts.{HasPut};
 ghost use Rattle.owner_acts.specs.Passed.Writes.{told_note};
+ghost use Rattle.owner_acts.specs.WithList.{IsNamedAs};
 ghost use Rattle.hall_slots.specs.declared.event.Event.TheVariants.{Did};
 ghost use Rattle.owner_events.specs.Acting.{DoesWith};
 ghost use Rattle.owner_events.specs.Holding.{IsBefore, IsNotBusy};
@@ -92,6 +93,7 @@ fn act_on(
     requires place { IsSome memory.old.place }
     ensures seat { HasPut seat.old (told_note seat.old.hand.note result.owned result.event) [] seat.new }
     ensures notes { IsNotedOn taken deque at.top result.event result.owned }
+    ensures named { IsNamedAs at.top result.event }
     ensures none { entries memory.new.births ≡ [] }
 {
     match taken {

@@ -12,8 +12,8 @@
 //! calls it names one crate. Its theorem: what a seat saw of its lane, the list, the pool and the count shows the one event that it was to
 //! do; it did this one, with just the slots and the count that the event needs, and owns then the deque that the event leaves it. Or it did
 //! none, and what it saw shows why: a slot that it needs was refused to it, an end is kept in the list that it needs, or it found a stop. If
-//! a look shows such a cause, it answers this one. And the law of the hall holds between any two atomic steps. Of an action the answer has a name, and
-//! only the law says that this is the name of the action before which the top thread was.
+//! a look shows such a cause, it answers this one. And the law of the hall holds between any two atomic steps. The name of an action is that of the
+//! action before which the top thread was.
 //!
 //! # Why
 //!

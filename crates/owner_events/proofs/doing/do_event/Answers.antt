@@ -1,5 +1,7 @@
 use Rattle.std.proofs.Common.{◌∙◌, sym, subst}
 use Rattle.containers.specs.BoundedList.{spare}
+use Rattle.owner_acts.specs.Passed.AtNext.{AtNext}
+use Rattle.owner_acts.specs.WithList.{IsNamedAs}
 use Rattle.turn_table.specs.Tables.{key_of}
 use Rattle.owner_events.specs.Acting.{DoesWith}
 use Rattle.owner_events.specs.Ready.{IsReadyOn}
@@ -31,4 +33,5 @@ pub returns-clause-seat : goal.returns-clause-seat
 returns-clause-seat c next r = let p = c.in_ok-at.ensures.seat in
     done_on (key_of c.args.row.now) c.args.seat.now c.args.deque c.args.at next (spare c.args.memory.now.births) c.prepare.new.seat c.args.taken r c.in_ok-at.taken p.1
     c.act_on.result c.act_on.new.seat
-    (subst (λ a. IsNotedOn c.in_ok-at.taken c.args.deque a.top c.act_on.result.event c.act_on.result.owned) p.0 c.act_on.ensures.notes) c.act_on.ensures.seat
+    (subst (λ a. IsNotedOn c.in_ok-at.taken c.args.deque a.top c.act_on.result.event c.act_on.result.owned) p.0 c.act_on.ensures.notes)
+    (subst (λ (a : AtNext). IsNamedAs a.top c.act_on.result.event) p.0 c.act_on.ensures.named) c.act_on.ensures.seat
