@@ -5,7 +5,6 @@ use Rattle.dag_order.specs.declared.finish.Finish.{Finish}
 use Rattle.play_rules.specs.declared.ends.RunEnd.{RunEnd}
 use Rattle.play_rules.specs.declared.ends.RunEnd.TheVariants.{Finished}
 use Rattle.work_loop.specs.declared.member.Member.{Member}
-use Rattle.hall_slots.specs.Takes.{HallSeat}
 use Rattle.worker_entry.specs.declared.hall.Hall.{Hall}
 use Rattle.worker_entry.specs.declared.seat.Seat.{Seat}
 use Rattle.worker_entry.specs.declared.closing.Closing.{Closing}
@@ -14,11 +13,12 @@ use Rattle.hall_threads.specs.declared.worker.HallWorker.{HallWorker}
 use Rattle.hall_threads.specs.Closed.{IsClosedBy}
 use Rattle.hall_threads.specs.Crews.{HasItsEnd, HasKeptRules, WasTold, seat_of}
 
--- a seat that saw a finish gave no deque up
-kept_after : (finish : Finish) (end : RunEnd) (last idle : Seat) → end ≡ Finished finish → HasKeptRules last → LetsGoAfter end last idle → HasKeptRules idle
-kept_after finish end last idle is rules goes = elim goes [
+-- a seat that was told a finish gave no deque up
+kept_after : (finish : Finish) (end : RunEnd) (last idle : Seat) → end ≡ Finished finish → WasTold last end → HasKeptRules last
+    → LetsGoAfter end last idle → HasKeptRules idle
+kept_after finish end last idle is told rules goes = elim goes [
   | inl same ↦ subst HasKeptRules (sym same.1) rules
-  | inr gone ↦ absurd (gone.3.unfinished finish (ap (λ (s : HallSeat). s.hand.note.answered) gone.1.0.2 ∙ ap (λ (e : RunEnd). Some e) is))
+  | inr gone ↦ absurd (gone.1.unfinished finish (told ∙ ap (λ (e : RunEnd). Some e) is))
 ]
 
 pub closed_by : {C : Type 0} (hall : Hall) (last : Member (HallWorker C) RunEnd) (closing : Closing) → HasItsEnd hall last
@@ -26,5 +26,6 @@ pub closed_by : {C : Type 0} (hall : Hall) (last : Member (HallWorker C) RunEnd)
     → IsClosedBy hall (seat_of last) closing
 closed_by hall last closing has closes told = record {
   closes = closes;
-  rules = λ finish is. kept_after finish closing.end (seat_of last) closes.1 is (has.rules finish (sym (told has.end has.told) ∙ is)) closes.2;
+  rules = λ finish is. kept_after finish closing.end (seat_of last) closes.1 is
+      (has.told ∙ ap (λ (e : RunEnd). Some e) (sym (told has.end has.told))) (has.rules finish (sym (told has.end has.told) ∙ is)) closes.2;
 }
