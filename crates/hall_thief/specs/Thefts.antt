@@ -28,12 +28,6 @@ pub record IsThief (seat : HallSeat) : Type 0 where
   pub stays : seat.hand.note.left ≡ false
   pub idle : seat.hand.note.deque ≡ None
 
--- the number of the period that began last, in a slot
-abbrev pub begun_in : Slot → ℕ
-begun_in (slots.List list) = list.part.begun
-begun_in (slots.Pool pool) = 0
-begun_in (slots.Lane lane) = 0
-
 -- One period more was begun, and the places are these. The rest of the list is as it was, and no end is kept.
 pub record IsRobbed (was now : ListSlot) (places : List Place) : Type 0 where
   pub places_are : now.part.order.places ≡ places

@@ -1,6 +1,6 @@
 //! Whom a thief robs.
 
-ghost use Rattle.std.specs.Prelude.{◌≡◌, ◌+◌, ◌<◌, ◌≤◌, ◌⊎◌, ◌↔◌, ◌∷◌, [], None, IsTrue, IfOk, IsOk, MatchResult, length};
+ghost use Rattle.std.specs.Prelude.{◌≡◌, ◌+◌, ◌<◌, ◌↔◌, ◌∷◌, [], None, IsTrue, IfOk, IsOk, MatchResult};
 ghost use Rattle.turn_table.specs.Tables.{key_of, slot_count, IsSeatOf};
 ghost use Rattle.hall_slots.specs.declared.slot.Slot.TheVariants as slots;
 ghost use Rattle.hall_slots.specs.Takes.{HasAllPlaces, IsPlaced, IsRefused, MeetsLaw};

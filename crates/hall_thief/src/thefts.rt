@@ -1,6 +1,6 @@
 //! The two thefts.
 
-ghost use Rattle.std.specs.Prelude.{◌≡◌, ◌+◌, ◌<◌};
+ghost use Rattle.std.specs.Prelude.{◌+◌, ◌<◌};
 ghost use Rattle.turn_table.specs.Tables.{key_of, slot_count, IsSeatOf};
 ghost use Rattle.hall_slots.specs.Takes.{MeetsLaw};
 ghost use Rattle.hall_thief.specs.Stealing.{HasStolenIn, MayTakeBottom, MayTakeOver};

@@ -1,5 +1,0 @@
-use Rattle.hall_machine.proofs.Leaving as law
-use Rattle.hall_machine.proofs.seat_laws.counts_are_few.Goals as goal
-
-pub returns : goal.returns
-returns c = law.counts_are_few

@@ -1,5 +1,0 @@
-use Rattle.hall_machine.proofs.Closed as law
-use Rattle.hall_machine.proofs.state_laws.closed_give_one_run.Goals as goal
-
-pub returns : goal.returns
-returns c = law.closed_give_one_run

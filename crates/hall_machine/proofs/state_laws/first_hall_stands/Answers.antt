@@ -1,5 +1,0 @@
-use Rattle.hall_machine.proofs.Closed as law
-use Rattle.hall_machine.proofs.state_laws.first_hall_stands.Goals as goal
-
-pub returns : goal.returns
-returns c = law.first_hall_stands

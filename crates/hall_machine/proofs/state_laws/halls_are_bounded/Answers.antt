@@ -1,5 +1,0 @@
-use Rattle.hall_machine.proofs.Closed as law
-use Rattle.hall_machine.proofs.state_laws.halls_are_bounded.Goals as goal
-
-pub returns : goal.returns
-returns c = law.halls_are_bounded

@@ -1,5 +1,0 @@
-use Rattle.hall_machine.proofs.Quiet as law
-use Rattle.hall_machine.proofs.state_laws.leaving_goes_on.Goals as goal
-
-pub returns : goal.returns
-returns c = law.leaving_goes_on

@@ -1,5 +1,0 @@
-use Rattle.hall_machine.proofs.Closed as law
-use Rattle.hall_machine.proofs.state_laws.seats_with_all_are_alone.Goals as goal
-
-pub returns : goal.returns
-returns c = law.seats_with_all_are_alone
