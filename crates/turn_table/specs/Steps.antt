@@ -10,7 +10,7 @@ use Rattle.turn_table.specs.Seats.{SeatView}
 use Rattle.turn_table.specs.Law.{Meets, MeetsHeld}
 use Rattle.turn_table.specs.Rows.{turn_word}
 
--- what a step on this word tells of the slot whose turn word it is
+-- what a step on this word says of the slot whose turn word it is
 abbrev pub OfWord : ℕ → (ℕ → Type 0) → Type 0
 OfWord word Told = (slot : ℕ) → turn_word slot ≡ word → Told slot
 
