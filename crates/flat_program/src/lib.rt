@@ -3,12 +3,14 @@
 //! [`FlatProgram::of`] makes flat code of each list of statements of a node table that a thread does not leave by itself: the bodies of
 //! functions, the branches of each `par` and the body of each `split`. [`FlatProgram::start`] finds the place of a frame by its node.
 //!
-//! It builds on the node table (`node_table`), on frames (`thread_stack`) and on flat code (`flat_code`, `flat_statements`).
+//! It builds on the node table (`node_table`), on frames (`thread_stack`), on rows of slots (`slot_store`), on flat code (`flat_code`,
+//! `flat_statements`) and on the loop that runs it (`flat_run`).
 //!
 //! Its theorem: at the place that [`FlatProgram::start`] gives there is the code of all frames of the place's mark (`Begins` of
 //! `flat_code`), and the code goes forward. So a thread whose frames are that mark is represented there by the machine of `flat_statements`,
-//! and `run_flat` of `flat_run` goes its way. Whether its frames are the mark, and its row is as long as [`FlatList`] says, a thread asks
-//! itself. A frame without a start is no fault: its statement is done by the thread.
+//! and [`FlatList::run`] goes its way: by its contract the thread comes, step by step, to the frames of the mark of the place where the run stops, with
+//! the row that is left. Whether its frames are the mark, and its row is as long as the list says, a thread asks itself. A frame without a
+//! start is no fault: its statement is done by the thread.
 //!
 //! Not there yet: the threads that run by it.
 //!
@@ -18,7 +20,8 @@
 //!   begins, and where it comes again if it is a loop.
 //! - **Which frame is at a start is not kept**: a thread compares the whole mark with its stack. So nothing is to be shown of the tables but
 //!   that each entry is the first place of some statement, where the mark is another than before.
-//! - **A row is as long as the list needs.** Its length is found by trying, from the slots of the function on.
+//! - **A row is as long as the list needs.** Its length is found by trying, from the slots of the function on. A thread keeps the slots of
+//!   the function alone: the temporary ones come as a list is entered, and go as it is left.
 #![tactic(auto)]
 
 mod flat_list;
@@ -26,6 +29,7 @@ mod flat_program;
 mod flat_start;
 mod making;
 mod owners;
+mod running;
 mod starting;
 
 pub use flat_list::FlatList;

@@ -1,16 +1,20 @@
 //! Flat code of functions, as a text that was worked out by hand.
 
+ghost use Rattle.node_table.specs.Codes.{code_shown};
 ghost use Rattle.flat_statements.specs.Forward.{IsForward};
 ghost use Rattle.flat_code.specs.Shown.{flat_shown};
+ghost use Rattle.flat_program.specs.Programs.{IsFlatProgram};
 
 use crate::tables::code_of;
 use dag_order::FaultKind;
 use flat_code::{Places, can_be_flat, listing, lower_whole};
+use flat_program::FlatProgram;
 use flat_run::{End, run_flat};
+use frame_code::Code;
 use slot_store::Slots;
 use std::alloc::Global;
 use std::process::Abort;
-use thread_stack::ListOf;
+use thread_stack::{Frame, ListOf};
 
 /// A loop in an arm of an `if` in a loop. The slots are x and y; the nodes are the two `let`s, the outer loop, the `if`, the inner loop
 /// with its assignment, the other assignment, and `print`, from 0 on.
@@ -154,4 +158,37 @@ fn flat_code_runs(rt: HostRuntime) {
         (7, 0, End::Faults(FaultKind::Index)),
         &[0, 2, 8],
     );
+}
+
+/// A frame begins at this place of the flat code of its program.
+fn begins_at(rt: &impl Abort, code: &Code, program: &FlatProgram, frame: Frame, due: Option<usize>)
+    requires { IsFlatProgram (code_shown code.now) program.now }
+{
+    match program.start(code, frame) {
+        Some(start) => assert!(rt; due == Some(start.place)),
+        None => assert!(rt; due.is_none()),
+    }
+}
+
+/// The statements of a list from a place on.
+fn from(list: ListOf, next: usize) -> Frame {
+    Frame::Statements { list, next }
+}
+
+/// Each statement begins where the text above says, and each loop that comes again at its second test. A list has no frame at its end.
+#[test]
+fn frames_begin_in_flat_code(rt: HostRuntime) {
+    let alloc = rt.alloc();
+    let code = code_of(&rt, alloc, LOOPS);
+    let program = FlatProgram::of(alloc, &code).expect(&rt, "memory");
+    begins_at(&rt, &code, &program, from(ListOf::Body(0), 0), Some(0));
+    begins_at(&rt, &code, &program, from(ListOf::Body(0), 2), Some(2));
+    begins_at(&rt, &code, &program, from(ListOf::Round(2), 0), Some(3));
+    begins_at(&rt, &code, &program, from(ListOf::Then(3), 0), Some(4));
+    begins_at(&rt, &code, &program, from(ListOf::Other(3), 0), Some(8));
+    begins_at(&rt, &code, &program, from(ListOf::Body(0), 3), Some(10));
+    begins_at(&rt, &code, &program, from(ListOf::Body(0), 4), None);
+    begins_at(&rt, &code, &program, Frame::Again(2), Some(9));
+    begins_at(&rt, &code, &program, Frame::Again(4), Some(6));
+    begins_at(&rt, &code, &program, Frame::Again(3), None);
 }

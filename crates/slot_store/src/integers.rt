@@ -1,6 +1,6 @@
 //! A new row of slots, and the integers of slots.
 
-ghost use Rattle.std.specs.Prelude.{◌≡◌, ◌<◌, ℕ, List, [], length, replicate, IfOk};
+ghost use Rattle.std.specs.Prelude.{◌≡◌, ◌<◌, ◌≤◌, ◌-◌, ◌++◌, ℕ, List, [], length, replicate, take, IfOk, OnErr};
 ghost use Rattle.depth_first_run.specs.Passed.Tree.{Name};
 ghost use Rattle.node_table.specs.Names.{name_at};
 ghost use Rattle.depth_first_run.specs.Stores.{Store, nothing, with_integer};
@@ -42,6 +42,35 @@ impl Slots {
         Slots {
             slots: Vec::new(alloc),
         }
+    }
+
+    /// So many slots with nothing in them come after the others that there are `count` in all.
+    ///
+    /// # Errors
+    ///
+    /// There is not enough memory. The slots are as they were.
+    pub fn lengthen(&mut self, count: u16) -> Result<(), AllocError>
+        requires { length (slots_shown self.old) ≤ count }
+        ensures row { IfOk result (λ _. slots_shown self.new ≡ slots_shown self.old
+            ++ replicate (count - length (slots_shown self.old)) blank) }
+        ensures err { OnErr result (slots_shown self.new ≡ slots_shown self.old) }
+    {
+        let more = count as usize - self.slots.len();
+        self.slots.reserve(more)?;
+        for _ in 0..more {
+            self.slots.push_reserved(Slot {
+                integer: 0,
+                block: None,
+            });
+        }
+        Ok(())
+    }
+
+    /// The first `count` slots are left.
+    pub fn shorten(&mut self, count: u16)
+        ensures { slots_shown self.new ≡ take count (slots_shown self.old) }
+    {
+        self.slots.truncate(count as usize);
     }
 
     /// How many slots there are.
