@@ -95,7 +95,8 @@ module _ (t : Table) (f : FlatCode) (k size : ℕ) (fits_in : k ≤ size) where
         let after = subst (λ m. ReachesCode t f k size xs m) end reach in
         let numbers = next_numbers t list next n ns e in
         let reach_rest =
-        list_reaches t f k size depth ns list (next + 1) xs then_at (then_at + length others) (is_list ns list (next + 1) xs then_at fits.1 later) numbers after in
+        list_reaches t f k size depth ns list (next + 1) xs then_at (then_at + length others)
+        (is_list ns list (next + 1) xs then_at fits.1 later) numbers after in
         let reach_here =
         list_reaches t f k size depth (n ∷ ns) list next xs place (place + length (one ++ others)) (is_list (n ∷ ns) list next xs place fits h) e reach in
         both_start place one others (starts place n here rest fits.0 front reach_here reach_rest)

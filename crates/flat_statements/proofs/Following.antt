@@ -137,13 +137,16 @@ module _ (t : Table) (f : FlatCode) (k size : ℕ) where
           → Follows t f k size (point place row turns) (standing here own turns) (kind_step n xs own turns kind)
       kind_follows None row is h front = absurd h
       kind_follows (Some (let_node s e)) row is h front =
-          acts_follow xs place behind row reach (acts_behind f here h.code place behind h.some h.there) (straight h.code row) (set_by s e own) (acts_run f here behind turns h.code place row h.there)
+          acts_follow xs place behind row reach (acts_behind f here h.code place behind h.some h.there) (straight h.code row) (set_by s e own)
+          (acts_run f here behind turns h.code place row h.there)
           (h.does row own front)
       kind_follows (Some (assign_node s e)) row is h front =
-          acts_follow xs place behind row reach (acts_behind f here h.code place behind h.some h.there) (straight h.code row) (set_by s e own) (acts_run f here behind turns h.code place row h.there)
+          acts_follow xs place behind row reach (acts_behind f here h.code place behind h.some h.there) (straight h.code row) (set_by s e own)
+          (acts_run f here behind turns h.code place row h.there)
           (h.does row own front)
       kind_follows (Some (put_node b i e)) row is h front =
-          acts_follow xs place behind row reach (acts_behind f here h.code place behind h.some h.there) (straight h.code row) (put_by b i e own) (acts_run f here behind turns h.code place row h.there)
+          acts_follow xs place behind row reach (acts_behind f here h.code place behind h.some h.there) (straight h.code row) (put_by b i e own)
+          (acts_run f here behind turns h.code place row h.there)
           (h.does row own front)
       kind_follows (Some (if_node e a b)) row is h front = if_follows e a b row is h front
       kind_follows (Some (while_node e a)) row is h front = round_follows e a h.again_at h.body row is h.test h.again front

@@ -12,8 +12,8 @@
 //! Its theorem, [`machine_follows_the_thread`]: where the machine represents a thread, each step of the thread is some steps of the
 //! machine after which it represents the thread again; or the machine meets the same fault, or gets to a place where flat code ends, and
 //! there the thread is as it was. By [`marks_are_frames`] the frames of the thread are always the mark of the machine's place. So the
-//! machine holds no frames: where it ends it reads them off its place, and by [`machine_ends_with_the_thread`] the thread ends there too. [`whole_lists_are_code`] says where it begins,
-//! [`code_goes_on`] where it goes on after a statement that the thread did by itself, and
+//! machine holds no frames: where it ends it reads them off its place, and by [`machine_ends_with_the_thread`] the thread ends there too.
+//! [`whole_lists_are_code`] says where it begins, [`code_goes_on`] where it goes on after a statement that the thread did by itself, and
 //! [`thread_steps_are_of_the_run`] that a step of a thread over slots is the step of the depth-first run, where the row shows the store of
 //! a state and the thread's frames are the run's; by [`thread_ways_are_of_the_run`] so many steps are as many of the run, none of them an
 //! action, whatever frames are after the function's. [`turns_stay`] lets a thread be given some of its turns alone.

@@ -11,7 +11,9 @@ returns-in-Some-last c ls is all =
     let first : IsTrue c.is_first.result = search rules in
     let lookup = c.in-Some.ensures.lookup in
     let long : length c.deref.result.now ≡ length items = ap (λ ps. length ps) c.deref.ensures.value in
-    let within : c.args.place < length (flat_shown items).places = let below = lookup.3.0 in let all_long = places_long items in omega (arith, below, long, all_long) in
+    let below = lookup.3.0 in
+    let all_long = places_long items in
+    let within : c.args.place < length (flat_shown items).places = omega (arith, below, long, all_long) in
     let not_within : IsWithinStatement (flat_shown items) c.args.place → ⊥ =
     subst (λ ps. IsWithinStatement (flat_shown ps) c.args.place → ⊥) c.deref-2.ensures.value (c.is_first.ensures first) in
     c.note.ensures ls

@@ -38,11 +38,14 @@ returns-in-Ends c =
     let lookup = c.in-Some.ensures.lookup in
     let at : slice_get places c.steps.at ≡ Some c.in-Some.place.now = slice_get_read places _ c.steps.at c.in-Some.place.now refl lookup.3.0 lookup.1 in
     let step = ap (step_at p) (what_at places c.steps.at c.in-Some.place.now at) ∙ c.in-Ends.ensures.step in
-    subst (λ row. RanTo f (at_point c.args.from (slots_shown c.args.slots.now) c.args.turns) (record { place = c.steps.at; turns = c.steps.left; end = c.in-Ends.end }) row)
+    let first = at_point c.args.from (slots_shown c.args.slots.now) c.args.turns in
+    subst (λ row. RanTo f first (record { place = c.steps.at; turns = c.steps.left; end = c.in-Ends.end }) row)
     (sym c.in-Ends.ensures.stays) (record { runs = c.steps.invariant; ends = step })
 
 pub returns : goal.returns
 returns c = record {
   runs = c.steps.invariant;
-  ends = ap (step_at (at_point c.steps.at (slots_shown c.steps.slots) c.steps.left)) (none_at c.args.places.now c.steps.at (slice_get_past c.args.places.now c.steps.at (search rules)));
+  ends =
+      ap (step_at (at_point c.steps.at (slots_shown c.steps.slots) c.steps.left))
+      (none_at c.args.places.now c.steps.at (slice_get_past c.args.places.now c.steps.at (search rules)));
 }
