@@ -17,9 +17,9 @@ use Rattle.worker_entry.specs.declared.hall.Hall.{Hall}
 use Rattle.worker_entry.specs.declared.seat.Seat.{Seat}
 use Rattle.worker_entry.specs.declared.refused.CloseRefused.{CloseRefused}
 use Rattle.worker_entry.specs.declared.refused.CloseRefused.TheVariants.{StillIn, NotOver, OutOfMemory}
-use Rattle.owner_events.specs.Yielding.{closing_note, short_note, stop_then, HasTakenBoth}
-use Rattle.owner_events.specs.declared.leaving.LastRefused.{LastRefused}
-use Rattle.owner_events.specs.declared.leaving.LastRefused.TheVariants as last
+use Rattle.hall_owner.specs.Yielding.{closing_note, short_note, stop_then, HasTakenBoth}
+use Rattle.hall_owner.specs.declared.leaving.LastRefused.{LastRefused}
+use Rattle.hall_owner.specs.declared.leaving.LastRefused.TheVariants as last
 use Rattle.worker_entry.specs.Seated.{SameSeat}
 
 -- What comes out of this list and this pool, of a run that ended so: the closed periods, the moves, and the result of the root if it finished.

@@ -15,8 +15,8 @@ use Rattle.hall_slots.specs.declared.event.Event.{Event}
 use Rattle.hall_slots.specs.declared.event.Event.TheVariants.{GaveUp}
 use Rattle.hall_slots.specs.declared.list_slot.ListSlot.{ListSlot}
 use Rattle.hall_slots.specs.declared.seat_note.SeatNote.{SeatNote}
-use Rattle.owner_events.specs.Yielding.{halting_note, leaving_note, stop_then, yielded_note, GivesUp, HasTakenBoth, IsBusy}
-use Rattle.owner_events.specs.declared.refused.ActRefused.TheVariants as failed
+use Rattle.hall_owner.specs.Yielding.{halting_note, leaving_note, stop_then, yielded_note, GivesUp, HasTakenBoth, IsBusy}
+use Rattle.hall_owner.specs.declared.refused.ActRefused.TheVariants as failed
 use Rattle.worker_entry.specs.declared.hall.Hall.{Hall}
 use Rattle.worker_entry.specs.declared.seat.Seat.{Seat}
 use Rattle.worker_entry.specs.declared.refused.EventRefused.{EventRefused}

@@ -8,8 +8,8 @@ ghost use Rattle.worker_entry.specs.Seated.{Enters, FindsListFree, IsIn, SameSea
 use crate::hall::Hall;
 use crate::refused::EnterRefused;
 use crate::seat::Seat;
+use hall_owner::SeatMemory;
 use hall_slots::{enter, halt};
-use owner_events::SeatMemory;
 use play_rules::{RunEnd, Stop};
 use turn_table::Held;
 

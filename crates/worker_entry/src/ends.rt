@@ -4,7 +4,7 @@ ghost use Rattle.std.specs.Prelude.{◌≡◌, ◌≢◌, ◌<◌, Err, None, So
 ghost use Rattle.hall_slots.specs.Closing.{IsClosed};
 ghost use Rattle.hall_slots.specs.declared.list_slot.ListSlot.{ListSlot as AnyList};
 ghost use Rattle.hall_slots.specs.declared.pool_slot.PoolSlot.{PoolSlot as AnyPool};
-ghost use Rattle.owner_events.specs.Yielding.{IsNotHeld, MayBeOver};
+ghost use Rattle.hall_owner.specs.Yielding.{IsNotHeld, MayBeOver};
 ghost use Rattle.play_rules.specs.declared.ends.RunEnd.{RunEnd as AnyEnd};
 ghost use Rattle.play_rules.specs.declared.stop.Stop.TheVariants.{OutOfMemory as NoMemory};
 ghost use Rattle.turn_table.specs.Tables.{key_of};
@@ -18,9 +18,9 @@ use crate::seat::Seat;
 use dag_order::ThreadId;
 use deque_list::DequeId;
 use dfd_core::root_of;
+use hall_owner::{LastRefused, close_deque, stop_then};
 use hall_slots::{ClosedHall, ListSlot, PoolSlot, close, close_at, see_end};
 use list_changes::ListPart;
-use owner_events::{LastRefused, close_deque, stop_then};
 use play_rules::{RunEnd, Stop};
 
 /// What is left of a hall that is closed.

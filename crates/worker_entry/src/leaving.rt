@@ -12,8 +12,8 @@ use crate::hall::Hall;
 use crate::refused::{EventRefused, LeaveRefused};
 use crate::seat::Seat;
 use deque_list::DequeId;
+use hall_owner::{ActRefused, YieldRefused, give_up_deque, leave_deque, stop_then};
 use hall_slots::{Event, join, leave};
-use owner_events::{ActRefused, YieldRefused, give_up_deque, leave_deque, stop_then};
 use play_rules::Stop;
 
 impl Hall {

@@ -5,7 +5,7 @@
 //! that has two places, steals, acts, goes on without an event, gives its deque up, keeps the stop that it found, and leaves into another seat. A seat that is to steal may
 //! hold the list first ([`ListHeld`]). The seat that has all places closes the hall.
 //!
-//! It uses what a core is taken apart into (`dfd_core`), the steal of a thief (`hall_thief`), the events of an owner (`owner_events`), and what
+//! It uses what a core is taken apart into (`dfd_core`), the steal of a thief (`hall_thief`), the events of an owner (`hall_owner`), and what
 //! a seat does with the list (`hall_slots`). Its theorem: for each core that has done no step there is a hall with its program, its quota and its
 //! terms, whose law holds; what a seat says of itself (its worker, its places, its deque, the stop that it found) is what the law of the hall
 //! says of it; and what a closed hall gives is of one run.
@@ -22,7 +22,7 @@
 //! - **A give up that nothing asks for runs no statement of the thread on top**, so a worker whose run was stopped can leave. Only a worker
 //!   that found too little memory keeps its deque: its top thread may be in the middle of a statement.
 //! - **`give_up` is refused where an end is kept, the give up of `leave` and of `close` is not.** An event of a seat is `Over` then. A worker
-//!   has to leave also then, so it gives its deque up by other calls (`leave_deque` and `close_deque` of `owner_events`).
+//!   has to leave also then, so it gives its deque up by other calls (`leave_deque` and `close_deque` of `hall_owner`).
 //! - **If there is not enough memory, `give_up` stops as `act` does**: the seat notes the stop, and the list does not keep it yet. The next
 //!   `halt` of the seat keeps it, or its `leave`.
 //! - **A worker that has not enough memory to leave keeps its stop by the same put back**, and is answered the end that is kept then. So the

@@ -9,8 +9,8 @@ use crate::entry::open_hall;
 use crate::hall::Hall;
 use crate::seat::Seat;
 use dfd_core::Core;
+use hall_owner::SeatMemory;
 use node_table::Code;
-use owner_events::SeatMemory;
 use std::alloc::{AllocError, Global};
 
 impl Hall {

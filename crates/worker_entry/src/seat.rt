@@ -1,8 +1,8 @@
 ghost use Rattle.std.specs.Prelude.{◌≡◌};
 
 use deque_list::DequeId;
+use hall_owner::SeatMemory;
 use hall_slots::HallPlace;
-use owner_events::SeatMemory;
 use play_rules::Stop;
 
 /// The right of one worker to work in a hall.

@@ -1,8 +1,8 @@
 use Rattle.std.proofs.Common.{refl, ap, subst}
 use Rattle.std.specs.Prelude.{Some, Err}
 use Rattle.play_rules.specs.declared.stop.Stop.{Stop}
-use Rattle.owner_events.specs.Yielding.{ClosesWith}
-use Rattle.owner_events.specs.declared.leaving.LastRefused.{LastRefused}
+use Rattle.hall_owner.specs.Yielding.{ClosesWith}
+use Rattle.hall_owner.specs.declared.leaving.LastRefused.{LastRefused}
 use Rattle.worker_entry.proofs.ends.let_go.Goals as goal
 
 pub returns-in-Ok-clause-seat : goal.returns-in-Ok-clause-seat

@@ -1,8 +1,8 @@
 use Rattle.std.proofs.Common.{refl, ap, subst}
 use Rattle.std.specs.Prelude.{Some, Err}
 use Rattle.play_rules.specs.declared.stop.Stop.{Stop}
-use Rattle.owner_events.specs.Yielding.{LeavesWith}
-use Rattle.owner_events.specs.declared.leaving.YieldRefused.{YieldRefused}
+use Rattle.hall_owner.specs.Yielding.{LeavesWith}
+use Rattle.hall_owner.specs.declared.leaving.YieldRefused.{YieldRefused}
 use Rattle.worker_entry.proofs.leaving.leave_with_deque.Goals as goal
 
 pub returns-in-Ok-clause-seat : goal.returns-in-Ok-clause-seat

@@ -1,3 +1,0 @@
--- What the proofs of callers need of what this crate stands on.
-pub use Rattle.moment_laws.proofs.Parents as Parents
-pub use Rattle.part_events.proofs.Waits as Waits

@@ -1,0 +1,23 @@
+pub mod Giving
+pub mod Taking
+pub mod Written
+pub mod Waits
+pub mod Owned
+pub mod There
+pub mod Sound
+pub mod Holding
+pub mod Putting
+pub mod Working
+pub mod Rooms
+pub mod Untaken
+pub mod Quiet
+pub mod Lanes
+pub mod Pauses
+pub mod Ended
+pub mod Deciding
+pub mod Staying
+pub mod Taken
+pub mod Noted
+mod Still
+pub mod Leaving
+pub mod Passed

@@ -1,9 +1,0 @@
-pub mod Ready
-pub mod WithPool
-pub mod WithList
-pub mod WithAll
-pub mod Pauses
-pub mod Ends
-pub mod Kept
-pub mod Quotas
-pub mod Passed

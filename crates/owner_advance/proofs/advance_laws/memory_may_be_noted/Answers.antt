@@ -1,5 +1,0 @@
-use Rattle.owner_advance.proofs.Noting as law
-use Rattle.owner_advance.proofs.advance_laws.memory_may_be_noted.Goals as goal
-
-pub returns : goal.returns
-returns c = law.memory_may_be_noted

@@ -1,5 +1,0 @@
-use Rattle.owner_advance.proofs.Joining as law
-use Rattle.owner_advance.proofs.read_laws.joins_are_read.Goals as goal
-
-pub returns : goal.returns
-returns c = law.joins_are_read

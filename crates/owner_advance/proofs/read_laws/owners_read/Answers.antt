@@ -1,5 +1,0 @@
-use Rattle.owner_advance.proofs.Reading as law
-use Rattle.owner_advance.proofs.read_laws.owners_read.Goals as goal
-
-pub returns : goal.returns
-returns c = law.owners_read

@@ -1,7 +1,0 @@
-//! The law of what an owner sees.
-ghost use Rattle.owner_events.specs.Laws.{OneEvent};
-
-/// One lane and one list show one event.
-pub fn one_event()
-    ensures { OneEvent }
-{}

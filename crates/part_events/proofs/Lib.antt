@@ -1,4 +1,0 @@
-pub mod Giving
-pub mod Taking
-pub mod Writing
-pub mod Waits
