@@ -7,7 +7,7 @@ ghost use Rattle.hall_slots.specs.declared.slot.Slot.TheVariants as slots;
 ghost use Rattle.hall_slots.specs.Takes.{IsPlaced, IsGiven, MeetsLaw};
 
 use crate::rule::{HallPlace, HallRow};
-use crate::{LaneSlot, ListSlot, PoolSlot, Slot};
+use crate::{LaneSlot, ListSlot, Slot};
 use containers::Boxed;
 use deque_list::DequeId;
 use turn_table::Keep;
@@ -32,17 +32,6 @@ pub fn give_list_back(row: &HallRow, seat: &mut HallPlace, list: Boxed<ListSlot>
     ensures meets { MeetsLaw (key_of row.now) seat.new }
 {
     give_slot_back(row, seat, 0, Slot::List(list));
-}
-
-/// Puts the pool back as it was.
-pub fn give_pool_back(row: &HallRow, seat: &mut HallPlace, pool: PoolSlot)
-    requires here { IsSeatOf row.now seat.old }
-    requires placed { IsPlaced seat.old }
-    requires held { HasAs 1 (slots.Pool pool) seat.old.hand.holds }
-    ensures seat { IsGiven seat.old 1 seat.new }
-    ensures meets { MeetsLaw (key_of row.now) seat.new }
-{
-    give_slot_back(row, seat, 1, Slot::Pool(pool));
 }
 
 /// Puts a lane back as it was.

@@ -8,7 +8,7 @@
 //! - [`HallRule`] is the law of the row: the law of the hall (`hall_machine`) over what the slots show, the count word and the notes of the seats,
 //!   for each program that the key may be of; and what such values do not say of the real parts: which slot is of which kind, how many words and
 //!   deques there may be, which threads are at their points.
-//! - [`take_list`], [`take_lane_and_list`]: a seat takes one slot or two, or is refused and holds nothing of what it took.
+//! - [`take_list`] and the calls beside it: a seat takes a slot, or is refused it.
 //! - [`open_row`] makes the slots of a run that has done nothing (its one deque, without an owner, has the root alone), with a lane for each deque
 //!   that there may be, and the first seat, of the worker 0, which has the places of all workers.
 //! - [`enter`]: a seat with two places takes the list, names a worker there that has the smallest free number, puts the list back, and gives one
@@ -50,7 +50,6 @@ mod list_calls;
 mod list_slot;
 mod lists;
 mod opening;
-mod pairs;
 mod pool_slot;
 mod puts;
 mod refused;
@@ -62,7 +61,7 @@ pub mod stop_laws;
 mod stopping;
 mod takes;
 
-pub use backs::{give_lane_back, give_list_back, give_pool_back};
+pub use backs::{give_lane_back, give_list_back};
 pub use closed::ClosedHall;
 pub use closing::{close, close_at};
 pub use counting::count_action;
@@ -76,7 +75,6 @@ pub use leaving::{leave, leave_in};
 pub use list_slot::ListSlot;
 pub use lists::{end_of, put_answered, put_same};
 pub use opening::open_row;
-pub use pairs::{take_lane_and_list, take_lane_and_pool};
 pub use pool_slot::PoolSlot;
 pub use refused::EnterRefused;
 pub use rule::{HallPlace, HallRow, HallRule};
