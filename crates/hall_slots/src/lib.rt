@@ -18,7 +18,7 @@
 //!   the limit the seat has found that the steps are spent. [`halt`] keeps a stop in the list, unless an end is kept; [`put_stopped`],
 //!   [`put_same`] and [`put_answered`] are for a seat that holds the list already.
 //! - [`see_end`] says whether an end is kept. [`close`]: a seat that has all places is the only one; if an end is kept and it owns no deque, the
-//!   slots come out.
+//!   slots come out. A seat that was answered the end closes with it ([`close_at`]).
 //!
 //! Its theorem: each call keeps the law between any two atomic steps, and the law holds of the first slots. A seat that is refused is unchanged
 //! except for the answers that it had, and a seat that has all places is never refused a slot. A worker that enters has the smallest number that
