@@ -36,7 +36,11 @@ impl Works<Tries, u32, u32> for Countdown {
         self.is_idle = !self.is_idle;
         if self.is_idle {
             table.waited.fetch_add(1, Ordering::SeqCst);
-            return Tried::Waits;
+            return if self.number % 2 == 0 {
+                Tried::Waits
+            } else {
+                Tried::Idles
+            };
         }
         table.did.fetch_add(u64::from(*code), Ordering::SeqCst);
         match self.left.checked_sub(1) {
