@@ -1,9 +1,11 @@
 -- What a thief may steal that has chosen its victim.
-use Rattle.std.specs.Prelude.{◌≡◌, ◌≢◌, ℕ, ◌+◌, ◌≤◌, true, nat_lt, List, [], ◌∷◌, ◌++◌, map, length}
+use Rattle.std.specs.Prelude.{◌≡◌, ◌≢◌, ℕ, ◌+◌, ◌<◌, ◌≤◌, true, min, nat_lt, Some, List, [], ◌∷◌, ◌++◌, map, length, slice_get}
 use Rattle.deque_list.specs.declared.deque_id.DequeId.{DequeId}
+use Rattle.deque_list.specs.declared.place.Place.{Place}
 use Rattle.deque_list.specs.Ids.{IsSmallestFree, place_ids}
 use Rattle.open_periods.specs.declared.period.Period.{Period}
-use Rattle.hall_slots.specs.Passed.Receipts.{ShowsNothing}
+use Rattle.hall_slots.specs.Passed.Receipts as shown
+use Rattle.hall_slots.specs.Passed.Receipts.{ShowsUnready}
 use Rattle.hall_slots.specs.Passed.Thread.{Thread}
 use Rattle.turn_table.specs.declared.look.Look.{Look}
 use Rattle.hall_slots.specs.declared.lane_slot.LaneSlot.{LaneSlot}
@@ -30,6 +32,11 @@ FoundBottomsMayBeTaken = (key : HallKey) (before middle seat : HallSeat) (list :
     → IsOpenTo seat list worker → lane.lane.items ≡ first ∷ (others ++ bottom ∷ []) → IsSmallestFree (place_ids list.part.order.places) id
     → length list.part.order.places ≢ list.part.order.most → new.lane.items ≡ [] → 1 ≤ new.lane.spare
     → IsNew period true (list.part.begun + 1) → MayTakeBottom key seat list (HasVictim.victim has).id lane id new worker period
+
+-- nothing to steal: these looks show of each deque in reach that it has no thread to steal
+abbrev pub ShowsNothing : (workers : ℕ) → List shown.Look → List Place → Type 0
+ShowsNothing workers looks places =
+    (place : ℕ) (p : Place) → place < min workers (length places) → slice_get places place ≡ Some p → ShowsUnready looks p
 
 -- What a seat was answered that tried all deques in reach shows that none has a thread to steal.
 abbrev pub TriesShowNothing : Type 0
