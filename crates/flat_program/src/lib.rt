@@ -9,8 +9,9 @@
 //! Its theorem: at the place that [`FlatProgram::start`] gives there is the code of all frames of the place's mark (`Begins` of
 //! `flat_code`), and the code goes forward. So a thread whose frames are that mark is represented there by the machine of `flat_statements`,
 //! and [`FlatList::run`] goes its way: by its contract the thread comes, step by step, to the frames of the mark of the place where the run stops, with
-//! the row that is left. Whether its frames are the mark, and its row is as long as the list says, a thread asks itself. A frame without a
-//! start is no fault: its statement is done by the thread.
+//! the row that is left. Whether its frames are the mark a thread asks by [`FlatList::left_below`], which says exactly how many frames of
+//! its stack are below them. Whether its row is as long as the list says, it asks itself. A frame without a start is no fault: its statement
+//! is done by the thread.
 //!
 //! Not there yet: the threads that run by it.
 //!
@@ -20,6 +21,7 @@
 //!   begins, and where it comes again if it is a loop.
 //! - **Which frame is at a start is not kept**: a thread compares the whole mark with its stack. So nothing is to be shown of the tables but
 //!   that each entry is the first place of some statement, where the mark is another than before.
+//! - **Frames are compared case by case**, so that two frames are found to be the same exactly if they are.
 //! - **A row is as long as the list needs.** Its length is found by trying, from the slots of the function on. A thread keeps the slots of
 //!   the function alone: the temporary ones come as a list is entered, and go as it is left.
 #![tactic(auto)]
@@ -28,6 +30,7 @@ mod flat_list;
 mod flat_program;
 mod flat_start;
 mod making;
+mod marking;
 mod owners;
 mod running;
 mod starting;

@@ -9,6 +9,7 @@ ghost use Rattle.flat_program.specs.declared.flat_list.FlatList as lists;
 
 use crate::flat_list::FlatList;
 use crate::flat_start::FlatStart;
+use crate::marking::are_same_frames;
 use flat_code::{Instruction, Place};
 use node_table::Code;
 use thread_stack::{Frame, numbers};
@@ -39,28 +40,6 @@ fn note(starts: &mut Vec<Option<FlatStart>>, code: &Code, frame: Frame, start: F
     }
 }
 
-/// Whether two frames are the same.
-fn same_frame(one: Frame, other: Frame) -> bool
-    ensures { one ≡ other → IsTrue result }
-{
-    one == other
-}
-
-/// Whether two marks have different lengths or different next frames.
-fn have_other_tops(one: &[Frame], other: &[Frame]) -> bool
-    ensures { IsTrue result → one.now ≡ other.now → ⊥ }
-{
-    if one.len() != other.len() {
-        return true;
-    }
-    for i in 0..one.len() {
-        if !same_frame(one[i], other[i]) {
-            return true;
-        }
-    }
-    false
-}
-
 /// Whether a place has another mark than the place before it.
 fn is_first(places: &[Place], at: usize) -> bool
     ensures { IsTrue result → IsWithinStatement (flat_shown places.now) at → ⊥ }
@@ -74,7 +53,7 @@ fn is_first(places: &[Place], at: usize) -> bool
     let Some(here) = places.get(at) else {
         return false;
     };
-    have_other_tops(&before.mark, &here.mark)
+    !are_same_frames(&before.mark, &here.mark)
 }
 
 /// Notes where the frame of a place begins, if it begins there. A jump is left out, since it leads to where the same frames begin.

@@ -1,4 +1,4 @@
-use Rattle.std.proofs.Common.{◌≡◌, ◌-◌, Some, slice_get, refl, sym, ◌∙◌}
+use Rattle.std.proofs.Common.{◌≡◌, ◌-◌, Some, slice_get, IsTrue, refl, sym, ◌∙◌, rules}
 use Rattle.std.proofs.lemmas.Option.{slice_get_read}
 use Rattle.flat_program.proofs.Starts.{same_mark}
 use Rattle.flat_program.proofs.starting.is_first.Goals as goal
@@ -13,4 +13,6 @@ returns c other same =
     let two = c.in-Some-get.ensures.lookup in
     let there : slice_get places (at - 1) ≡ Some before = slice_get_read places _ (at - 1) before refl one.3.0 one.1 in
     let next : slice_get places at ≡ Some here = slice_get_read places _ at here refl two.3.0 two.1 in
-    c.have_other_tops.ensures other (c.deref.ensures.value ∙ same_mark places at before here there next same ∙ sym c.deref-2.ensures.value)
+    let marks = c.deref.ensures.value ∙ same_mark places at before here there next same ∙ sym c.deref-2.ensures.value in
+    let equal : IsTrue c.are_same_frames.result = c.are_same_frames.ensures.1 marks in
+    search rules
