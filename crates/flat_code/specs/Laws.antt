@@ -12,3 +12,7 @@ abbrev pub ListsOfProgramsCanBeFlat : Type 0
 ListsOfProgramsCanBeFlat =
     (p : Program) (t : Table) (names : List Name) (list : ListOf) (b : Body) (size : ℕ) → AreStatements p t names (numbers_from t list 0) b
     → length names ≤ size → ((n : ℕ) → KindHasRoom (length names) size (kind_at t n)) → CanBeFlat t (length names) size list
+
+-- A list that has flat code in a row of so many slots has it in each longer row.
+abbrev pub LongerRowsServe : Type 0
+LongerRowsServe = (t : Table) (k size most : ℕ) (list : ListOf) → size ≤ most → CanBeFlat t k size list → CanBeFlat t k most list

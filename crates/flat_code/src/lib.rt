@@ -15,7 +15,7 @@
 //! `flat_statements` the machine that runs it goes the way of the thread. It is asked for where [`can_be_flat`], which says exactly
 //! whether the slots of the list are slots of the function and its expressions find their temporary slots in the row; by
 //! [`lists_of_programs_can_be_flat`] each list of a program does, if the row has room for the intermediate numbers of its expressions.
-//! Then not enough memory, and too many places, are the only refusals.
+//! Then not enough memory, and too many places, are the only refusals. By [`longer_rows_serve`] a longer row is as good.
 //!
 //! By its second clause the code goes forward, so a run of it ends (`flat_run` has the loop). By its third clause a place with another mark
 //! than the place before it is one at which a thread may begin; `flat_program` makes a table of them.
@@ -54,7 +54,7 @@ mod test;
 
 pub use expressions::{lower_condition, lower_expression, lower_operand};
 pub use instruction::Instruction;
-pub use laws::lists_of_programs_can_be_flat;
+pub use laws::{lists_of_programs_can_be_flat, longer_rows_serve};
 pub use lower_fail::LowerFail;
 pub use lowering::{can_be_flat, lower_whole};
 pub use place::{Mark, Place, Places};
