@@ -15,6 +15,7 @@ returns-clause-some c =
     let same : IsTrue c.are_same_frames.result = search rules in
     let n = length c.args.stack.now - length c.in-Some.others.now in (
       omega arith,
-      above_same c.args.stack.now c.in-Some.others.now c.args.mark.now c.args.next c.in-Some.last.now n c.in-Some.ensures.cases.0 (c.is_same_frame.ensures.0 top)
+      above_same c.args.stack.now c.in-Some.others.now c.args.mark.now c.args.next c.in-Some.last.now n
+          c.in-Some.ensures.cases.0 (c.is_same_frame.ensures.0 top)
           (sym (rest_taken n c.args.stack.now) ∙ c.are_same_frames.ensures.0 same),
     )
