@@ -1,3 +1,4 @@
 pub mod Starts
 pub mod Threads
 pub mod Marks
+pub mod Sizes

@@ -1,6 +1,6 @@
 //! Makes the flat code of a program.
 
-ghost use Rattle.std.specs.Prelude.{IfOk, IfSome};
+ghost use Rattle.std.specs.Prelude.{◌≡◌, ℕ, ◌+◌, ◌^◌, ◌<◌, None, IfOk, IfSome};
 ghost use Rattle.node_table.specs.Codes.{code_shown};
 ghost use Rattle.flat_code.specs.Fits.{CanBeFlat};
 ghost use Rattle.flat_program.specs.Programs.{IsFlatList, IsFlatProgram};
@@ -136,9 +136,11 @@ impl FlatProgram {
     }
 }
 
-/// The length of a row that has room for the intermediate numbers of a list.
+/// The length of a row that has room for the intermediate numbers of a list. None exactly if no row has room that has fewer than
+/// `MOST_NUMBERS` slots more than the function.
 fn size_for(code: &Code, list: ListOf, slots: u16) -> Option<u16>
-    ensures { IfSome result (λ size. CanBeFlat (code_shown code.now) slots size list) }
+    ensures fits { IfSome result (λ size. CanBeFlat (code_shown code.now) slots size list) }
+    ensures none { result ≡ None → (size : ℕ) → size < slots + MOST_NUMBERS → size < 2 ^ 16 → CanBeFlat (code_shown code.now) slots size list → ⊥ }
 {
     for more in 0..MOST_NUMBERS {
         let size = slots.saturating_add(more);
