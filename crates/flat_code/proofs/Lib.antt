@@ -7,3 +7,4 @@ pub mod MadeCode
 pub mod Forwards
 pub mod Starting
 pub mod OfPrograms
+pub mod Lengths

@@ -5,3 +5,4 @@ pub mod Shown
 pub mod Room
 pub mod Laws
 pub mod Listing
+pub mod Refused

@@ -110,3 +110,7 @@ node_made t k (suc depth) place n here xs = kind_made k (node_made t k depth) n 
 -- a whole list that a thread does not leave by itself
 abbrev pub whole_made : Table → (k : ℕ) → (depth : ℕ) → ListOf → (place : ℕ) → List Placed
 whole_made t k depth list place = list_made (node_made t k depth) (numbers_from t list 0) list 0 [] place ++ left_alone []
+
+-- how many places the code of such a list has
+abbrev pub code_length : Table → (k : ℕ) → ListOf → ℕ
+code_length t k list = length (whole_made t k (length t.nodes) list 0)

@@ -15,7 +15,8 @@
 //! `flat_statements` the machine that runs it goes the way of the thread. It is asked for where [`can_be_flat`], which says exactly
 //! whether the slots of the list are slots of the function and its expressions find their temporary slots in the row; by
 //! [`lists_of_programs_can_be_flat`] each list of a program does, if the row has room for the intermediate numbers of its expressions.
-//! Then not enough memory, and too many places, are the only refusals. By [`longer_rows_serve`] a longer row is as good.
+//! Then not enough memory, and too many places, are the only refusals; there are too many exactly if 32 bits cannot number them. By
+//! [`longer_rows_serve`] a longer row is as good.
 //!
 //! By its second clause the code goes forward, so a run of it ends (`flat_run` has the loop). By its third clause a place with another mark
 //! than the place before it is one at which a thread may begin; `flat_program` makes a table of them.
@@ -28,6 +29,8 @@
 //!   no jump is filled in later.
 //! - **A list is made apart and then added to what is before it.** A place is moved once for each list around it, and these are at most as
 //!   many as the text has braces open at once.
+//! - **Too many places are refused where the first one without a number is met**, and once more at the end for the last statement. Each number
+//!   that is tried is one of a place of the code, or of the end of it, so no other code is refused.
 //! - **The check comes before, apart from the making.** So what can go wrong with an expression is said once, as a question about
 //!   the table, and the making has no answer for it.
 //! - **A mark is kept with each place**, the next frame last, as on a thread's stack: a thread that leaves flat code takes its frames as they

@@ -1,10 +1,12 @@
 //! The flat code of a list of statements that a thread does not leave by itself.
 
-ghost use Rattle.std.specs.Prelude.{◌↔◌, IfOk, IsTrue};
+ghost use Rattle.std.specs.Prelude.{◌↔◌, ◌<◌, ◌≤◌, IfOk, IsTrue};
 ghost use Rattle.node_table.specs.Codes.{code_shown};
 ghost use Rattle.flat_statements.specs.Codes.{IsWholeCode};
 ghost use Rattle.flat_statements.specs.Forward.{IsForward};
 ghost use Rattle.flat_code.specs.Fits.{CanBeFlat};
+ghost use Rattle.flat_code.specs.Made.{code_length};
+ghost use Rattle.flat_code.specs.Refused.{IfTooLong, most_places};
 ghost use Rattle.flat_code.specs.Shown.{flat_shown};
 ghost use Rattle.flat_code.specs.Starts.{OthersBegin};
 
@@ -43,12 +45,17 @@ pub fn lower_whole(
     requires { CanBeFlat (code_shown code.now) slots size list }
     ensures code { IfOk result (λ v. IsWholeCode (code_shown code.now) (flat_shown v.items) slots size list 0) }
     ensures forward { IfOk result (λ v. IsForward (flat_shown v.items)) }
+    ensures long { IfTooLong result (most_places < code_length (code_shown code.now) slots list) }
+    ensures short { IfOk result (λ _. code_length (code_shown code.now) slots list ≤ most_places) }
     ensures begins { IfOk result (λ v. OthersBegin (code_shown code.now) (flat_shown v.items) slots size) }
 {
     let scope = Scope { code, slots, size };
     let none: &[Frame] = &[];
     let inside = numbers(code, list);
     let mut places = lower_list(alloc, &scope, inside, list, none, 0, code.len())?;
+    if places.len() > u32::MAX as usize {
+        return Err(LowerFail::TooLong);
+    }
     add_place(alloc, &mut places, Instruction::Leave, none)?;
     Ok(places)
 }

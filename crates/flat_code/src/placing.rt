@@ -1,12 +1,13 @@
 //! Places, put one after another.
 
-ghost use Rattle.std.specs.Prelude.{◌≡◌, ◌+◌, [], ◌∷◌, ◌++◌, IfOk, ℕ};
+ghost use Rattle.std.specs.Prelude.{◌≡◌, ◌+◌, ◌≤◌, [], ◌∷◌, ◌++◌, length, IfOk, ℕ};
 ghost use Rattle.node_table.specs.Table.{Expr};
 ghost use Rattle.node_table.specs.Shown.{expr_shown};
 ghost use Rattle.flat_expressions.specs.Codes.{code_of, put_code};
 ghost use Rattle.flat_expressions.specs.Shown.{acts_shown};
 ghost use Rattle.flat_code.specs.Fits.{FitsSet, FitsPut, FitsTest};
 ghost use Rattle.flat_code.specs.Made.{placed, acts_placed, tested, test_length, arm_end, arm_end_length, loop_from, left_alone};
+ghost use Rattle.flat_code.specs.Refused.{IfTooLong, most_places};
 ghost use Rattle.flat_code.specs.Shown.{instruction_shown, frames_shown, places_shown, IsCondition};
 
 use crate::condition::Condition;
@@ -22,7 +23,8 @@ use thread_stack::Frame;
 
 /// The place that is so many places after another.
 pub(crate) fn place_after(place: u32, count: usize) -> Result<u32, LowerFail>
-    ensures { IfOk result (λ n. n ≡ place + count) }
+    ensures place { IfOk result (λ n. n ≡ place + count) }
+    ensures long { IfTooLong result (most_places ≤ place + count) }
 {
     match u32::try_from(count) {
         Ok(count) => place.checked_add(count).ok_or(LowerFail::TooLong),
@@ -131,7 +133,8 @@ pub(crate) fn condition_of(
 
 /// The place after a condition and its test.
 pub(crate) fn after_test(place: u32, condition: &Condition) -> Result<u32, LowerFail>
-    ensures { IfOk result (λ n. (e : Expr) (k : ℕ) → IsCondition condition.now e k → n ≡ place + test_length e k) }
+    ensures place { IfOk result (λ n. (e : Expr) (k : ℕ) → IsCondition condition.now e k → n ≡ place + test_length e k) }
+    ensures long { IfTooLong result ((e : Expr) (k : ℕ) → IsCondition condition.now e k → most_places ≤ place + test_length e k) }
 {
     place_after(place, condition.acts.len() + 1)
 }
@@ -162,7 +165,8 @@ pub(crate) fn left_places(alloc: Global, here: &[Frame]) -> Result<Places, Alloc
 
 /// The place of the other arm of an `if`, whose first arm begins at `start` and has so many places.
 pub(crate) fn other_place(start: u32, first: usize, other: &[u32]) -> Result<u32, LowerFail>
-    ensures { IfOk result (λ n. n ≡ start + first + arm_end_length other.now) }
+    ensures place { IfOk result (λ n. n ≡ start + first + arm_end_length other.now) }
+    ensures long { IfTooLong result (most_places ≤ start + first + arm_end_length other.now) }
 {
     let end = place_after(start, first)?;
     if other.is_empty() {
@@ -199,8 +203,10 @@ pub(crate) fn loop_places(
     body: u32,
     inside: Places,
 ) -> Result<Places, LowerFail>
-    ensures { IfOk result (λ v. (e : Expr) (k : ℕ) → IsCondition condition.now e k
+    ensures places { IfOk result (λ v. (e : Expr) (k : ℕ) → IsCondition condition.now e k
         → places_shown v.items ≡ loop_from e k (frames_shown here.now) (frames_shown again.now) body (places_shown inside.items)) }
+    ensures long { IfTooLong result ((e : Expr) (k : ℕ) → IsCondition condition.now e k
+        → most_places ≤ body + length (places_shown inside.items) + test_length e k) }
 {
     let again_at = place_after(body, inside.len())?;
     let behind = after_test(again_at, condition)?;

@@ -1,10 +1,11 @@
 //! The places of statements and of lists of statements.
 
-ghost use Rattle.std.specs.Prelude.{◌≡◌, ◌<◌, ◌∷◌, ◌+◌, ◌^◌, IfOk, Some};
+ghost use Rattle.std.specs.Prelude.{◌≡◌, ◌<◌, ◌≤◌, ◌∷◌, ◌+◌, ◌^◌, length, IfOk, Some};
 ghost use Rattle.node_table.specs.Shown.{expr_shown, kind_shown};
 ghost use Rattle.flat_statements.specs.Threads.{rest_of};
 ghost use Rattle.flat_code.specs.Fits.{FitsTest, AllFit, FitsKind, FitsNode};
 ghost use Rattle.flat_code.specs.Made.{list_made, other_at, arms_made, if_made, while_made, kind_made, node_made};
+ghost use Rattle.flat_code.specs.Refused.{IfTooLong, most_places};
 ghost use Rattle.flat_code.specs.Shown.{frames_shown, places_shown, table_of};
 
 use crate::arms::Arms;
@@ -56,8 +57,10 @@ pub(crate) fn lower_list(
     depth: u32,
 ) -> Result<Places, LowerFail>
     requires { AllFit (FitsNode (table_of scope.now) scope.now.slots scope.now.size depth) numbers.now }
-    ensures { IfOk result (λ v. places_shown v.items
+    ensures places { IfOk result (λ v. places_shown v.items
         ≡ list_made (node_made (table_of scope.now) scope.now.slots depth) numbers.now list 0 (frames_shown behind.now) place) }
+    ensures long { IfTooLong result (most_places
+        ≤ place + length (list_made (node_made (table_of scope.now) scope.now.slots depth) numbers.now list 0 (frames_shown behind.now) place)) }
 {
     let mut places = Vec::new(alloc);
     let mut next = 0usize;
@@ -83,9 +86,12 @@ pub(crate) fn lower_list(
 #[cycle(lower)]
 fn lower_node(alloc: Global, scope: &Scope, site: &Site, depth: u32) -> Result<Places, LowerFail>
     requires { FitsNode (table_of scope.now) scope.now.slots scope.now.size depth site.now.number }
-    ensures { IfOk result (λ v. places_shown v.items
+    ensures places { IfOk result (λ v. places_shown v.items
         ≡ node_made (table_of scope.now) scope.now.slots depth site.now.place site.now.number
         (frames_shown site.now.here.now) (frames_shown site.now.behind.now)) }
+    ensures long { IfTooLong result (most_places
+        ≤ site.now.place + length (node_made (table_of scope.now) scope.now.slots depth site.now.place site.now.number
+        (frames_shown site.now.here.now) (frames_shown site.now.behind.now))) }
 {
     match scope.code.node(site.number) {
         Some(node) => lower_kind(alloc, scope, site, &node.kind, depth - 1),
@@ -104,9 +110,12 @@ fn lower_kind(
 ) -> Result<Places, LowerFail>
     requires { FitsKind scope.now.slots scope.now.size (FitsNode (table_of scope.now) scope.now.slots scope.now.size depth)
         (Some (kind_shown kind.now)) }
-    ensures { IfOk result (λ v. places_shown v.items
+    ensures places { IfOk result (λ v. places_shown v.items
         ≡ kind_made scope.now.slots (node_made (table_of scope.now) scope.now.slots depth) site.now.number
         (frames_shown site.now.here.now) (frames_shown site.now.behind.now) site.now.place (Some (kind_shown kind.now))) }
+    ensures long { IfTooLong result (most_places
+        ≤ site.now.place + length (kind_made scope.now.slots (node_made (table_of scope.now) scope.now.slots depth) site.now.number
+        (frames_shown site.now.here.now) (frames_shown site.now.behind.now) site.now.place (Some (kind_shown kind.now)))) }
 {
     match kind {
         NodeKind::Let { name, value } => Ok(set_places(alloc, scope, *name, value, site.here)?),
@@ -138,9 +147,12 @@ fn lower_if(
     requires { FitsTest scope.now.slots scope.now.size (expr_shown cond.now)
         × AllFit (FitsNode (table_of scope.now) scope.now.slots scope.now.size depth) then.now
         × AllFit (FitsNode (table_of scope.now) scope.now.slots scope.now.size depth) other.now }
-    ensures { IfOk result (λ v. places_shown v.items
+    ensures places { IfOk result (λ v. places_shown v.items
         ≡ if_made (node_made (table_of scope.now) scope.now.slots depth) site.now.place site.now.number (expr_shown cond.now) scope.now.slots
         then.now other.now (frames_shown site.now.here.now) (frames_shown site.now.behind.now)) }
+    ensures long { IfTooLong result (most_places
+        ≤ site.now.place + length (if_made (node_made (table_of scope.now) scope.now.slots depth) site.now.place site.now.number (expr_shown cond.now)
+        scope.now.slots then.now other.now (frames_shown site.now.here.now) (frames_shown site.now.behind.now))) }
 {
     let condition = condition_of(alloc, scope, cond)?;
     let start = after_test(site.place, &condition)?;
@@ -172,6 +184,9 @@ fn lower_arms(
     ensures places { IfOk result (λ a. places_shown a.places.items
         ≡ arms_made (node_made (table_of scope.now) scope.now.slots depth) site.now.number (frames_shown site.now.behind.now) other.now start
         (places_shown first.items)) }
+    ensures long { IfTooLong result (most_places
+        ≤ start + length (arms_made (node_made (table_of scope.now) scope.now.slots depth) site.now.number (frames_shown site.now.behind.now) other.now start
+        (places_shown first.items))) }
 {
     let other_at = other_place(start, first.len(), other)?;
     let list = ListOf::Other(site.number);
@@ -198,9 +213,12 @@ fn lower_while(
 ) -> Result<Places, LowerFail>
     requires { FitsTest scope.now.slots scope.now.size (expr_shown cond.now)
         × AllFit (FitsNode (table_of scope.now) scope.now.slots scope.now.size depth) body.now }
-    ensures { IfOk result (λ v. places_shown v.items
+    ensures places { IfOk result (λ v. places_shown v.items
         ≡ while_made (node_made (table_of scope.now) scope.now.slots depth) site.now.place site.now.number (expr_shown cond.now) scope.now.slots
         body.now (frames_shown site.now.here.now) (frames_shown site.now.behind.now)) }
+    ensures long { IfTooLong result (most_places
+        ≤ site.now.place + length (while_made (node_made (table_of scope.now) scope.now.slots depth) site.now.place site.now.number
+        (expr_shown cond.now) scope.now.slots body.now (frames_shown site.now.here.now) (frames_shown site.now.behind.now))) }
 {
     let condition = condition_of(alloc, scope, cond)?;
     let start = after_test(site.place, &condition)?;

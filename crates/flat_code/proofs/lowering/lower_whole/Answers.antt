@@ -17,7 +17,7 @@ returns-clause-code c =
     let k = c.args.slots in
     let deep : c.len.result ≡ length t.nodes = c.len.ensures ∙ sym (length-map (nodes_of c.args.code.now) node_shown) in
     let inside =
-    c.in_ok-places.ensures
+    c.in_ok-places.ensures.places
     ∙ ap (λ ns. list_made (node_made t k c.len.result) ns c.args.list 0 [] 0) c.numbers-inside.ensures
     ∙ ap (λ d. list_made (node_made t k d) (numbers_of t c.args.list) c.args.list 0 [] 0) deep in
     made_is_code t k c.args.size c.args.list (places_shown c.add_place.new.places.items) c.requires
@@ -27,7 +27,7 @@ pub returns-clause-forward : goal.returns-clause-forward
 returns-clause-forward c =
     let t = code_shown c.args.code.now in
     let k = c.args.slots in
-    let inside = c.in_ok-places.ensures ∙ ap (λ ns. list_made (node_made t k c.len.result) ns c.args.list 0 [] 0) c.numbers-inside.ensures in
+    let inside = c.in_ok-places.ensures.places ∙ ap (λ ns. list_made (node_made t k c.len.result) ns c.args.list 0 [] 0) c.numbers-inside.ensures in
     made_forward t k c.len.result c.args.list (places_shown c.add_place.new.places.items)
     (c.in_ok-add_place.ensures ∙ ap (λ ps. ps ++ placed leaves [] ∷ []) inside)
 
@@ -37,7 +37,7 @@ returns-clause-begins c =
     let k = c.args.slots in
     let deep : c.len.result ≡ length t.nodes = c.len.ensures ∙ sym (length-map (nodes_of c.args.code.now) node_shown) in
     let inside =
-    c.in_ok-places.ensures
+    c.in_ok-places.ensures.places
     ∙ ap (λ ns. list_made (node_made t k c.len.result) ns c.args.list 0 [] 0) c.numbers-inside.ensures
     ∙ ap (λ d. list_made (node_made t k d) (numbers_of t c.args.list) c.args.list 0 [] 0) deep in
     made_begins t k c.args.size c.args.list (places_shown c.add_place.new.places.items) c.requires
