@@ -1,16 +1,15 @@
 -- The frames of a stack above those that are left.
 use Rattle.std.proofs.Common.{◌≡◌, ◌↔◌, ℕ, zero, suc, ◌-◌, ◌≤◌, List, [], ◌∷◌, ◌++◌, length}
 use Rattle.std.proofs.Common.{take, drop, Option, Some, None, refl, sym, ap, ◌∙◌, arith, append_assoc, length-append}
-use Rattle.std.specs.Prelude.{reverse, slice_get, IfSome}
+use Rattle.std.specs.Prelude.{reverse, IfSome}
 use Rattle.std.proofs.Math.Seq.{drop-append_seam}
-use Rattle.std.proofs.lemmas.List.{same_from_push, take-append-drop, length-drop, reverse-append, length-reverse}
+use Rattle.std.proofs.lemmas.List.{same_from_push, take-append-drop, length-drop, reverse-append}
 use Rattle.thread_stack.specs.declared.frame.Frame.{Frame}
 use Rattle.flat_statements.specs.Flat.{frames_at}
-use Rattle.flat_code.specs.declared.place.Place.{Place}
 use Rattle.flat_code.specs.Shown.{flat_shown}
 use Rattle.flat_program.specs.declared.flat_list.FlatList.{FlatList}
 use Rattle.flat_program.specs.Marking.{IsMarkOn}
-use Rattle.flat_program.proofs.Starts.{mark_at, same_reversed}
+use Rattle.flat_program.proofs.Starts.{same_reversed}
 
 module _ {A : Type 0} where
   -- where the last ones are the same
@@ -76,35 +75,21 @@ module _ {A : Type 0} where
       slice_index (w ∷ ws) z = w
 
 -- the frames of a mark, the next one first
-pub mark_on : (ps : List Place) (place : ℕ) (here : Place) (next : Frame) (stack left : List Frame) → slice_get ps place ≡ Some here
-    → (stack ++ next ∷ [] ≡ left ++ here.mark.items) ↔ (next ∷ reverse stack ≡ frames_at (flat_shown ps) place ++ reverse left)
-mark_on ps place here next stack left there =
-    let mark = mark_at ps place here there in
+mark_on : (l : FlatList) (place : ℕ) (next : Frame) (stack mark left : List Frame) → reverse mark ≡ frames_at (flat_shown l.places.items) place
+    → (stack ++ next ∷ [] ≡ left ++ mark) ↔ IsMarkOn l place next stack left
+mark_on l place next stack mark left is =
     let one : reverse (stack ++ next ∷ []) ≡ next ∷ reverse stack = reverse-append stack (next ∷ []) in
-    let two : reverse (left ++ here.mark.items) ≡ frames_at (flat_shown ps) place ++ reverse left =
-    reverse-append left here.mark.items ∙ ap (λ (xs : List Frame). xs ++ reverse left) (sym mark) in
-    (λ h. sym one ∙ ap reverse h ∙ two, λ h. same_reversed (stack ++ next ∷ []) (left ++ here.mark.items) (one ∙ h ∙ sym two))
-
--- a place that is not there has no frames
-pub no_mark : (ps : List Place) (place : ℕ) (next : Frame) (stack left : List Frame) → slice_get ps place ≡ None → length left ≤ length stack
-    → next ∷ reverse stack ≡ frames_at (flat_shown ps) place ++ reverse left → ⊥
-no_mark [] place next stack left there less is =
-    let long = ap (λ (xs : List Frame). length xs) is in
-    let one = length-reverse stack in
-    let two = length-reverse left in
-    omega (arith, less, long, one, two)
-no_mark (p ∷ ps) zero next stack left there less is = let never : ⊥ = cc in absurd never
-no_mark (p ∷ ps) (suc place) next stack left there less is = no_mark ps place next stack left there less is
+    let two : reverse (left ++ mark) ≡ frames_at (flat_shown l.places.items) place ++ reverse left =
+    reverse-append left mark ∙ ap (λ (xs : List Frame). xs ++ reverse left) is in
+    (λ h. sym one ∙ ap reverse h ∙ two, λ h. same_reversed (stack ++ next ∷ []) (left ++ mark) (one ∙ h ∙ sym two))
 
 -- what is left below the frames of a mark, and what is not
-pub left_shown : (l : FlatList) (place : ℕ) (here : Place) (next : Frame) (stack mark : List Frame) (o : Option ℕ) → slice_get l.places.items place ≡ Some here
-    → mark ≡ here.mark.items → IfSome o (λ n. (n ≤ length stack) × (stack ++ next ∷ [] ≡ take n stack ++ mark))
+pub left_shown : (l : FlatList) (place : ℕ) (next : Frame) (stack mark : List Frame) (o : Option ℕ) → reverse mark ≡ frames_at (flat_shown l.places.items) place
+    → IfSome o (λ n. (n ≤ length stack) × (stack ++ next ∷ [] ≡ take n stack ++ mark))
     → IfSome o (λ n. (n ≤ length stack) × IsMarkOn l place next stack (take n stack))
-left_shown l place here next stack mark None there is h = tt
-left_shown l place here next stack mark (Some n) there is h =
-    (h.0, (mark_on l.places.items place here next stack (take n stack) there).0 (h.1 ∙ ap (λ (xs : List Frame). take n stack ++ xs) is))
+left_shown l place next stack mark None is h = tt
+left_shown l place next stack mark (Some n) is h = (h.0, (mark_on l place next stack mark (take n stack) is).0 h.1)
 
-pub none_shown : (l : FlatList) (place : ℕ) (here : Place) (next : Frame) (stack mark left : List Frame) → slice_get l.places.items place ≡ Some here
-    → mark ≡ here.mark.items → (stack ++ next ∷ [] ≡ left ++ mark → ⊥) → IsMarkOn l place next stack left → ⊥
-none_shown l place here next stack mark left there is h on =
-    h ((mark_on l.places.items place here next stack left there).1 on ∙ ap (λ (xs : List Frame). left ++ xs) (sym is))
+pub none_shown : (l : FlatList) (place : ℕ) (next : Frame) (stack mark left : List Frame) → reverse mark ≡ frames_at (flat_shown l.places.items) place
+    → (stack ++ next ∷ [] ≡ left ++ mark → ⊥) → IsMarkOn l place next stack left → ⊥
+none_shown l place next stack mark left is h on = h ((mark_on l place next stack mark left is).1 on)

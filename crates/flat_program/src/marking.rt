@@ -1,11 +1,14 @@
 //! Whether the frames of a thread are those of the mark of a place.
 
-ghost use Rattle.std.specs.Prelude.{◌≡◌, ◌≤◌, ◌↔◌, List, [], ◌∷◌, ◌++◌, length, take, None, IsTrue, IfSome};
+ghost use Rattle.std.specs.Prelude.{◌≡◌, ◌≤◌, ◌↔◌, List, [], ◌∷◌, ◌++◌, length, take, reverse, None, IsTrue, IfSome, IfOk, OnErr};
 ghost use Rattle.thread_stack.specs.declared.frame.Frame as frames;
+ghost use Rattle.flat_statements.specs.Flat.{frames_at};
+ghost use Rattle.flat_code.specs.Shown.{flat_shown};
 ghost use Rattle.flat_program.specs.Marking.{IsMarkOn};
 
 use crate::flat_list::FlatList;
 use depth_first_list::Tree;
+use std::alloc::AllocError;
 use thread_stack::{Branch, Frame, ListOf};
 
 impl FlatList {
@@ -16,10 +19,31 @@ impl FlatList {
         ensures some { IfSome result (λ n. (n ≤ length stack.now) × IsMarkOn self.now place next stack.now (take n stack.now)) }
         ensures none { result ≡ None → (left : List frames.Frame) → length left ≤ length stack.now → IsMarkOn self.now place next stack.now left → ⊥ }
     {
-        let Some(here) = self.places.get(place) else {
-            return None;
-        };
-        left_of(&here.mark, next, stack)
+        left_of(self.mark(place), next, stack)
+    }
+
+    /// The frames of the mark of a place, the next one last.
+    #[inline(always)]
+    pub fn mark(&self, place: usize) -> &[Frame]
+        ensures { reverse result.now ≡ frames_at (flat_shown self.now.places.items) place }
+    {
+        match self.places.get(place) {
+            Some(here) => &here.mark,
+            None => &[],
+        }
+    }
+
+    /// Puts the frames of the mark of a place on a stack.
+    ///
+    /// # Errors
+    ///
+    /// There is not enough memory. The stack is unchanged.
+    #[inline(always)]
+    pub fn push_mark(&self, place: usize, stack: &mut Vec<Frame>) -> Result<(), AllocError>
+        ensures frames { IfOk result (λ _. reverse stack.new.items ≡ frames_at (flat_shown self.now.places.items) place ++ reverse stack.old.items) }
+        ensures err { OnErr result (stack.new.items ≡ stack.old.items) }
+    {
+        stack.extend_from_slice(self.mark(place))
     }
 }
 
