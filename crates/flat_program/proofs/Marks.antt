@@ -3,11 +3,13 @@ use Rattle.std.proofs.Common.{◌≡◌, ◌↔◌, ℕ, zero, suc, ◌-◌, ◌
 use Rattle.std.proofs.Common.{take, drop, Option, Some, None, refl, sym, ap, ◌∙◌, arith, append_assoc, length-append}
 use Rattle.std.specs.Prelude.{reverse, IfSome}
 use Rattle.std.proofs.Math.Seq.{drop-append_seam}
-use Rattle.std.proofs.lemmas.List.{same_from_push, take-append-drop, length-drop, reverse-append}
+use Rattle.std.proofs.lemmas.List.{same_from_push, take-append-drop, length-drop, reverse-append, length-reverse}
 use Rattle.thread_stack.specs.declared.frame.Frame.{Frame}
 use Rattle.flat_statements.specs.Flat.{frames_at}
+use Rattle.flat_code.specs.declared.place.Place.{Place}
 use Rattle.flat_code.specs.Shown.{flat_shown}
 use Rattle.flat_program.specs.declared.flat_list.FlatList.{FlatList}
+use Rattle.flat_program.specs.Programs.{deepest_mark, HasDeepest}
 use Rattle.flat_program.specs.Marking.{IsMarkOn}
 use Rattle.flat_program.proofs.Starts.{same_reversed}
 
@@ -93,3 +95,17 @@ left_shown l place next stack mark (Some n) is h = (h.0, (mark_on l place next s
 pub none_shown : (l : FlatList) (place : ℕ) (next : Frame) (stack mark left : List Frame) → reverse mark ≡ frames_at (flat_shown l.places.items) place
     → (stack ++ next ∷ [] ≡ left ++ mark → ⊥) → IsMarkOn l place next stack left → ⊥
 none_shown l place next stack mark left is h on = h ((mark_on l place next stack mark left is).1 on)
+
+-- no mark has more frames than the deepest
+pub within_deepest : (ps : List Place) (place : ℕ) → length (frames_at (flat_shown ps) place) ≤ deepest_mark ps
+within_deepest [] place = omega arith
+within_deepest (p ∷ ps) zero =
+    let long : length (frames_at (flat_shown (p ∷ ps)) zero) ≡ length p.mark.items = length-reverse p.mark.items in
+    omega (arith, long)
+within_deepest (p ∷ ps) (suc place) = let rest = within_deepest ps place in omega (arith, rest)
+
+pub has_deepest : (l : FlatList) (ps : List Place) → ps ≡ l.places.items → l.deepest ≡ deepest_mark ps → HasDeepest l
+has_deepest l ps is deep place =
+    let most = within_deepest l.places.items place in
+    let same = ap deepest_mark is in
+    omega (arith, most, same, deep)

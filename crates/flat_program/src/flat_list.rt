@@ -6,4 +6,6 @@ pub struct FlatList {
     pub places: Places,
     pub slots: u16,
     pub size: u16,
+    /// How many frames a mark has at most.
+    pub deepest: usize,
 }

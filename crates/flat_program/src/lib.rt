@@ -10,9 +10,9 @@
 //! `flat_code`), and the code goes forward. So a thread whose frames are that mark is represented there by the machine of `flat_statements`,
 //! and [`FlatList::run`] goes its way: by its contract the thread comes, step by step, to the frames of the mark of the place where the run stops, with
 //! the row that is left. Whether its frames are the mark a thread asks by [`FlatList::left_below`], which says exactly how many frames of
-//! its stack are below them; [`FlatList::push_mark`] puts those of the place where the run stopped there. Whether its row is as long as the
-//! list says, it asks itself. A frame without a start is no fault: its statement is done by the thread. What it knows of its
-//! way is in `flat_threads`.
+//! its stack are below them; [`FlatList::push_mark`] puts those of the place where the run stopped there, for which it has made room before
+//! the run. Whether its row is as long as the list says, it asks itself. A frame without a start is no fault: its statement is done by the
+//! thread. What it knows of its way is in `flat_threads`.
 //!
 //! Not there yet: the threads that run by it.
 //!
@@ -22,6 +22,7 @@
 //!   begins, and where it comes again if it is a loop.
 //! - **Which frame is at a start is not kept**: a thread compares the whole mark with its stack. So nothing is to be shown of the tables but
 //!   that each entry is the first place of some statement, where the mark is another than before.
+//! - **A list says how many frames a mark of it has at most.** So a thread finds memory for them before a run, which cannot be undone.
 //! - **Frames are compared case by case**, so that two frames are found to be the same exactly if they are.
 //! - **A row is as long as the list needs.** Its length is found by trying, from the slots of the function on. A thread keeps the slots of
 //!   the function alone: the temporary ones come as a list is entered, and go as it is left.

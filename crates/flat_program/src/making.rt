@@ -7,6 +7,7 @@ ghost use Rattle.flat_program.specs.Programs.{IsFlatList, IsFlatProgram};
 
 use crate::flat_list::FlatList;
 use crate::flat_program::FlatProgram;
+use crate::marking::deepest_of;
 use crate::owners::owners;
 use crate::starting::note_all;
 use flat_code::{LowerFail, can_be_flat, lower_whole};
@@ -167,9 +168,11 @@ fn flat_list(
     ensures { IfOk result (IsFlatList (code_shown code.now)) }
 {
     let places = lower_whole(alloc, code, list, slots, size)?;
+    let deepest = deepest_of(&places);
     Ok(FlatList {
         places,
         slots,
         size,
+        deepest,
     })
 }

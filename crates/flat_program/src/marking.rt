@@ -1,14 +1,15 @@
 //! Whether the frames of a thread are those of the mark of a place.
 
-ghost use Rattle.std.specs.Prelude.{◌≡◌, ◌≤◌, ◌↔◌, List, [], ◌∷◌, ◌++◌, length, take, reverse, None, IsTrue, IfSome, IfOk, OnErr};
+ghost use Rattle.std.specs.Prelude.{◌≡◌, ◌≤◌, ◌↔◌, List, [], ◌∷◌, ◌++◌, length, take, reverse, None, IsTrue, IfSome, ◌+◌, vec_len, vec_capacity};
 ghost use Rattle.thread_stack.specs.declared.frame.Frame as frames;
 ghost use Rattle.flat_statements.specs.Flat.{frames_at};
 ghost use Rattle.flat_code.specs.Shown.{flat_shown};
+ghost use Rattle.flat_program.specs.Programs.{deepest_mark};
 ghost use Rattle.flat_program.specs.Marking.{IsMarkOn};
 
 use crate::flat_list::FlatList;
 use depth_first_list::Tree;
-use std::alloc::AllocError;
+use flat_code::Place;
 use thread_stack::{Branch, Frame, ListOf};
 
 impl FlatList {
@@ -33,18 +34,35 @@ impl FlatList {
         }
     }
 
-    /// Puts the frames of the mark of a place on a stack.
-    ///
-    /// # Errors
-    ///
-    /// There is not enough memory. The stack is unchanged.
+    /// Puts the frames of the mark of a place on a stack, which has room for them.
     #[inline(always)]
-    pub fn push_mark(&self, place: usize, stack: &mut Vec<Frame>) -> Result<(), AllocError>
-        ensures frames { IfOk result (λ _. reverse stack.new.items ≡ frames_at (flat_shown self.now.places.items) place ++ reverse stack.old.items) }
-        ensures err { OnErr result (stack.new.items ≡ stack.old.items) }
+    pub fn push_mark(&self, place: usize, stack: &mut Vec<Frame>)
+        requires { vec_len stack.old + length (frames_at (flat_shown self.now.places.items) place) ≤ vec_capacity stack.old }
+        ensures { reverse stack.new.items ≡ frames_at (flat_shown self.now.places.items) place ++ reverse stack.old.items }
     {
-        stack.extend_from_slice(self.mark(place))
+        push_all(self.mark(place), stack);
     }
+}
+
+/// Puts frames on a stack, which has room for them.
+fn push_all(frames: &[Frame], stack: &mut Vec<Frame>)
+    requires { vec_len stack.old + length frames.now ≤ vec_capacity stack.old }
+    ensures { stack.new.items ≡ stack.old.items ++ frames.now }
+{
+    for frame in frames {
+        stack.push_reserved(*frame);
+    }
+}
+
+/// How many frames the mark of a place has at most.
+pub(crate) fn deepest_of(places: &[Place]) -> usize
+    ensures { result ≡ deepest_mark places.now }
+{
+    let mut deepest = 0usize;
+    for place in places {
+        deepest = deepest.max(place.mark.len());
+    }
+    deepest
 }
 
 /// How many frames of a stack, with one more above it, are left below those of a mark.

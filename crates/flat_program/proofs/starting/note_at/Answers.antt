@@ -17,4 +17,4 @@ returns-in-Some-last c ls is all =
     let not_within : IsWithinStatement (flat_shown items) c.args.place → ⊥ =
     subst (λ ps. IsWithinStatement (flat_shown ps) c.args.place → ⊥) c.deref-2.ensures.value (c.is_first.ensures first) in
     c.note.ensures ls
-    (flat, is, record { code = c.requires.others c.args.place within not_within; forward = c.requires.forward; room = c.requires.room }) all
+    (flat, is, record { code = c.requires.others c.args.place within not_within; forward = c.requires.forward; room = c.requires.room; deep = c.requires.deep }) all
