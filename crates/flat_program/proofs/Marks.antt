@@ -86,8 +86,8 @@ mark_on l place next stack mark left is =
     (λ h. sym one ∙ ap reverse h ∙ two, λ h. same_reversed (stack ++ next ∷ []) (left ++ mark) (one ∙ h ∙ sym two))
 
 -- what is left below the frames of a mark, and what is not
-pub left_shown : (l : FlatList) (place : ℕ) (next : Frame) (stack mark : List Frame) (o : Option ℕ) → reverse mark ≡ frames_at (flat_shown l.places.items) place
-    → IfSome o (λ n. (n ≤ length stack) × (stack ++ next ∷ [] ≡ take n stack ++ mark))
+pub left_shown : (l : FlatList) (place : ℕ) (next : Frame) (stack mark : List Frame) (o : Option ℕ)
+    → reverse mark ≡ frames_at (flat_shown l.places.items) place → IfSome o (λ n. (n ≤ length stack) × (stack ++ next ∷ [] ≡ take n stack ++ mark))
     → IfSome o (λ n. (n ≤ length stack) × IsMarkOn l place next stack (take n stack))
 left_shown l place next stack mark None is h = tt
 left_shown l place next stack mark (Some n) is h = (h.0, (mark_on l place next stack mark (take n stack) is).0 h.1)

@@ -8,11 +8,11 @@
 //!
 //! Its theorem: at the place that [`FlatProgram::start`] gives there is the code of all frames of the place's mark (`Begins` of
 //! `flat_code`), and the code goes forward. So a thread whose frames are that mark is represented there by the machine of `flat_statements`,
-//! and [`FlatList::run`] goes its way: by its contract the thread comes, step by step, to the frames of the mark of the place where the run stops, with
-//! the row that is left. Whether its frames are the mark a thread asks by [`FlatList::left_below`], which says exactly how many frames of
-//! its stack are below them; [`FlatList::push_mark`] puts those of the place where the run stopped there, for which it has made room before
-//! the run. Whether its row is as long as the list says, it asks itself. A frame without a start is no fault: its statement is done by the
-//! thread. What it knows of its way is in `flat_threads`.
+//! and [`FlatList::run`] goes its way: by its contract the thread comes, step by step, to the frames of the mark of the place where the run
+//! stops, with the row that is left. Whether its frames are the mark a thread asks by [`FlatList::left_below`], which says exactly how many
+//! frames of its stack are below them; [`FlatList::push_mark`] puts those of the place where the run stopped there, for which it has made
+//! room before the run. Whether its row is as long as the list says, it asks itself. A frame without a start is no fault: its statement is
+//! done by the thread. What it knows of its way is in `flat_threads`.
 //!
 //! Not there yet: the threads that run by it.
 //!

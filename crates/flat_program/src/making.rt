@@ -141,7 +141,8 @@ impl FlatProgram {
 /// `MOST_NUMBERS` slots more than the function.
 fn size_for(code: &Code, list: ListOf, slots: u16) -> Option<u16>
     ensures fits { IfSome result (λ size. CanBeFlat (code_shown code.now) slots size list) }
-    ensures none { result ≡ None → (size : ℕ) → size < slots + MOST_NUMBERS → size < 2 ^ 16 → CanBeFlat (code_shown code.now) slots size list → ⊥ }
+    ensures none { result ≡ None → (size : ℕ) → size < slots + MOST_NUMBERS → size < 2 ^ 16
+        → CanBeFlat (code_shown code.now) slots size list → ⊥ }
 {
     for more in 0..MOST_NUMBERS {
         let size = slots.saturating_add(more);

@@ -1,6 +1,7 @@
 //! Whether the frames of a thread are those of the mark of a place.
 
-ghost use Rattle.std.specs.Prelude.{◌≡◌, ◌≤◌, ◌↔◌, List, [], ◌∷◌, ◌++◌, length, take, reverse, None, IsTrue, IfSome, ◌+◌, vec_len, vec_capacity};
+ghost use Rattle.std.specs.Prelude.{◌≡◌, ◌+◌, ◌≤◌, ◌↔◌, List, [], ◌∷◌, ◌++◌, length, take, reverse, None, IsTrue, IfSome};
+ghost use Rattle.std.specs.Prelude.{vec_len, vec_capacity};
 ghost use Rattle.thread_stack.specs.declared.frame.Frame as frames;
 ghost use Rattle.flat_statements.specs.Flat.{frames_at};
 ghost use Rattle.flat_code.specs.Shown.{flat_shown};
@@ -18,7 +19,8 @@ impl FlatList {
     #[inline(always)]
     pub fn left_below(&self, place: usize, next: Frame, stack: &[Frame]) -> Option<usize>
         ensures some { IfSome result (λ n. (n ≤ length stack.now) × IsMarkOn self.now place next stack.now (take n stack.now)) }
-        ensures none { result ≡ None → (left : List frames.Frame) → length left ≤ length stack.now → IsMarkOn self.now place next stack.now left → ⊥ }
+        ensures none { result ≡ None → (left : List frames.Frame) → length left ≤ length stack.now
+            → IsMarkOn self.now place next stack.now left → ⊥ }
     {
         left_of(self.mark(place), next, stack)
     }
@@ -68,7 +70,8 @@ pub(crate) fn deepest_of(places: &[Place]) -> usize
 /// How many frames of a stack, with one more above it, are left below those of a mark.
 fn left_of(mark: &[Frame], next: Frame, stack: &[Frame]) -> Option<usize>
     ensures some { IfSome result (λ n. (n ≤ length stack.now) × (stack.now ++ next ∷ [] ≡ take n stack.now ++ mark.now)) }
-    ensures none { result ≡ None → (left : List frames.Frame) → length left ≤ length stack.now → stack.now ++ next ∷ [] ≡ left ++ mark.now → ⊥ }
+    ensures none { result ≡ None → (left : List frames.Frame) → length left ≤ length stack.now
+        → stack.now ++ next ∷ [] ≡ left ++ mark.now → ⊥ }
 {
     let Some((last, others)) = mark.split_last() else {
         return None;
