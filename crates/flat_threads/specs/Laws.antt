@@ -1,19 +1,25 @@
 -- What a caller may use of the ways of threads.
-use Rattle.std.specs.Prelude.{◌≡◌, ℕ, ◌+◌, ◌≤◌, List, ◌∷◌, ◌++◌}
-use Rattle.depth_first_run.specs.Passed.Tree.{Func, Program}
-use Rattle.depth_first_run.specs.States.{Setting}
+use Rattle.std.specs.Prelude.{◌≡◌, ℕ, ◌+◌, ◌≤◌, false, List, ◌∷◌, ◌++◌, map}
+use Rattle.depth_first_run.specs.Passed.Tree.{Name, Func, Program}
+use Rattle.depth_first_run.specs.States.{Setting, State, Item}
 use Rattle.depth_first_run.specs.Middle as middles
 use Rattle.depth_first_run.specs.Middle.{Middle}
+use Rattle.thread_points.specs.Threads.{IsThread}
 use Rattle.node_table.specs.Names.{slot_names}
 use Rattle.node_table.specs.Table.{Table}
 use Rattle.thread_stack.specs.declared.frame.Frame.{Frame}
 use Rattle.thread_stack.specs.Frames.{AreFrames}
 use Rattle.thread_stack.specs.Measure.{left_to_do}
+use Rattle.thread_state.specs.States.{IsState, own_row, words_held}
+use Rattle.thread_state.specs.declared.state.ThreadState.{ThreadState}
+use Rattle.thread_output.specs.Telling.{Tells}
+use Rattle.thread_output.specs.declared.told.Told.{Told}
 use Rattle.flat_statements.specs.Flat.{goes_to}
-use Rattle.flat_statements.specs.Threads.{Standing, thread_step, with_turns}
+use Rattle.flat_statements.specs.Threads.{Standing, standing, thread_step, with_turns}
 use Rattle.flat_statements.specs.Runs.{IsInState}
 use Rattle.flat_statements.specs.Follows.{Steps}
 use Rattle.flat_threads.specs.Ways.{how_many, HasSingleBlocks, RowStays}
+use Rattle.flat_threads.specs.Along.{ComesAlong, AreMarks, AreInside, DiffersInRow, HasGone}
 
 -- After a step less is left to do, where the frames of the thread are those of a program, with any frames zs after those of its function.
 abbrev pub StepsLeaveLess : Type 0
@@ -35,3 +41,45 @@ WaysStayWithMoreTurns = (t : Table) (more : ℕ) (s u : Standing) → Steps t s 
 -- A way neither lengthens the row nor changes how many words its blocks have: an assignment leaves the blocks, a write their lengths.
 abbrev pub RowsStay : Type 0
 RowsStay = (t : Table) (s u : Standing) → Steps t s u → HasSingleBlocks s.row → RowStays s.row u.row
+
+-- A way of a thread over slots is one of the thread in the depth-first run, from each of its points at which it has these frames and this row.
+abbrev pub ThreadsComeAlong : Type 0
+ThreadsComeAlong =
+    (c : Setting) (t : Table) (g : Func) (gs : List Func) (zs : List Frame) (s u : Standing) → Steps t s u → (own : List middles.Frame) (at : State)
+    → AreFrames c.program t (g ∷ gs) (s.frames ++ zs) own → IsInState (slot_names g) s.row s.turns at → ComesAlong c t (g ∷ gs) zs own at u
+
+-- A thread that is in a state of the depth-first run, and that no fault ended, shows this state by its row and its turns.
+abbrev pub ThreadsAreInState : Type 0
+ThreadsAreInState =
+    (contexts : List (List Name)) (names : List Name) (one : ThreadState) (at : State) → one.faulted ≡ false → IsState (names ∷ contexts) one at
+    → IsInState names (own_row one) one.turns at
+
+-- A thread with the row and the turns at the end of a way is in the state there, and has as many words as before.
+abbrev pub ThreadsAreInLaterState : Type 0
+ThreadsAreInLaterState =
+    (c : Setting) (t : Table) (g : Func) (gs : List Func) (zs : List Frame) (own : List middles.Frame) (xs : List Frame) (one other : ThreadState) (at : State)
+    → one.faulted ≡ false → DiffersInRow one other → IsState (map slot_names (g ∷ gs)) one at
+    → (w : ComesAlong c t (g ∷ gs) zs own at (standing xs (own_row other) other.turns)) → IsState (map slot_names (g ∷ gs)) other w.to
+
+abbrev pub WordsStay : Type 0
+WordsStay =
+    (t : Table) (xs ys : List Frame) (one other : ThreadState) → DiffersInRow one other
+    → Steps t (standing xs (own_row one) one.turns) (standing ys (own_row other) other.turns) → words_held other ≡ words_held one
+
+-- marks leave the lines and the fault of a thread as they are
+abbrev pub MarksSayNothing : Type 0
+MarksSayNothing = (told : Told) (part new : List Item) → AreMarks new → Tells told part → Tells told (part ++ new)
+
+-- a way leaves the frames inside the call of the function
+abbrev pub WaysStayInside : Type 0
+WaysStayInside = (t : Table) (s u : Standing) → Steps t s u → AreInside s.frames → AreInside u.frames
+
+-- So a thread goes a way at once: from each of its points at which it has the frames xs, with zs after them, it gets to one at which it has ys in
+-- their place, with the row and the turns of the end of the way.
+abbrev pub ThreadsGoTheirWays : Type 0
+ThreadsGoTheirWays =
+    (c : Setting) (t : Table) (g : Func) (gs : List Func) (xs ys zs : List Frame) (one other : ThreadState) (told : Told)
+    (own : List middles.Frame) (at : State) (part : List Item) (older : List (List Item)) → Steps t (standing xs (own_row one) one.turns) (standing ys (own_row other) other.turns)
+    → one.faulted ≡ false → DiffersInRow one other → IsThread c own at (part ∷ older) → AreFrames c.program t (g ∷ gs) (xs ++ zs) own
+    → IsState (map slot_names (g ∷ gs)) one at → Tells told part
+    → HasGone c t (g ∷ gs) ys zs other told own older
