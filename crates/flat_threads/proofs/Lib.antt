@@ -4,4 +4,4 @@ pub mod Rows
 pub mod Silent
 pub mod Along
 pub mod Bridge
-pub mod Inside
+pub mod Others

@@ -24,17 +24,17 @@ AreMarks (acted action ∷ items) = ⊥
 AreMarks (printed v ∷ items) = ⊥
 AreMarks (failed fault ∷ items) = ⊥
 
--- frames of one call: statements of lists, and loops that come again
-abbrev pub AreInside : List Frame → Type 0
-AreInside [] = Unit {0}
-AreInside (Statements list next ∷ xs) = AreInside xs
-AreInside (Again n ∷ xs) = AreInside xs
-AreInside (Tree shape ∷ xs) = ⊥
-AreInside (Answers n caller ∷ xs) = ⊥
-AreInside (Rejoins n ∷ xs) = ⊥
-AreInside (AnswersMain ∷ xs) = ⊥
-AreInside (Allocates slot len ∷ xs) = ⊥
-AreInside (Joins branch ∷ xs) = ⊥
+-- the frames that are neither statements of a list nor a loop that comes again: the ends of calls, and what else a way does not touch
+abbrev pub other_frames : List Frame → List Frame
+other_frames [] = []
+other_frames (Statements list next ∷ xs) = other_frames xs
+other_frames (Again n ∷ xs) = other_frames xs
+other_frames (Tree shape ∷ xs) = Tree shape ∷ other_frames xs
+other_frames (Answers n caller ∷ xs) = Answers n caller ∷ other_frames xs
+other_frames (Rejoins n ∷ xs) = Rejoins n ∷ other_frames xs
+other_frames (AnswersMain ∷ xs) = AnswersMain ∷ other_frames xs
+other_frames (Allocates slot len ∷ xs) = Allocates slot len ∷ other_frames xs
+other_frames (Joins branch ∷ xs) = Joins branch ∷ other_frames xs
 
 -- Where the depth-first run comes by a way, from the frames `own` and the state `at`, to the standing u, with the frames zs after those of the
 -- function. It is a point of the same thread, with the same open children; nothing but the store and the turns has changed, and nothing but

@@ -19,7 +19,7 @@ use Rattle.flat_statements.specs.Threads.{Standing, standing, thread_step, with_
 use Rattle.flat_statements.specs.Runs.{IsInState}
 use Rattle.flat_statements.specs.Follows.{Steps}
 use Rattle.flat_threads.specs.Ways.{how_many, HasSingleBlocks, RowStays}
-use Rattle.flat_threads.specs.Along.{ComesAlong, AreMarks, AreInside, DiffersInRow, HasGone}
+use Rattle.flat_threads.specs.Along.{ComesAlong, AreMarks, other_frames, DiffersInRow, HasGone}
 
 -- After a step less is left to do, where the frames of the thread are those of a program, with any frames zs after those of its function.
 abbrev pub StepsLeaveLess : Type 0
@@ -70,9 +70,10 @@ WordsStay =
 abbrev pub MarksSayNothing : Type 0
 MarksSayNothing = (told : Told) (part new : List Item) → AreMarks new → Tells told part → Tells told (part ++ new)
 
--- a way leaves the frames inside the call of the function
-abbrev pub WaysStayInside : Type 0
-WaysStayInside = (t : Table) (s u : Standing) → Steps t s u → AreInside s.frames → AreInside u.frames
+-- A way leaves the frames that are no statements as they are, with any frames zs after those of the function: the same calls are open.
+abbrev pub OtherFramesStay : Type 0
+OtherFramesStay =
+    (t : Table) (zs : List Frame) (s u : Standing) → Steps t s u → other_frames (u.frames ++ zs) ≡ other_frames (s.frames ++ zs)
 
 -- So a thread goes a way at once: from each of its points at which it has the frames xs, with zs after them, it gets to one at which it has ys in
 -- their place, with the row and the turns of the end of the way.

@@ -1,6 +1,6 @@
 ghost use Rattle.flat_threads.specs.Laws.{StepsLeaveLess, WaysLeaveLess, WaysStayWithMoreTurns, RowsStay, ThreadsComeAlong};
 ghost use Rattle.flat_threads.specs.Laws.{ThreadsAreInState, ThreadsAreInLaterState};
-ghost use Rattle.flat_threads.specs.Laws.{WordsStay, MarksSayNothing, WaysStayInside, ThreadsGoTheirWays};
+ghost use Rattle.flat_threads.specs.Laws.{WordsStay, MarksSayNothing, OtherFramesStay, ThreadsGoTheirWays};
 
 /// After a step of a thread less is left to do.
 pub fn steps_leave_less()
@@ -47,9 +47,9 @@ pub fn marks_say_nothing()
     ensures { MarksSayNothing }
 {}
 
-/// A way stays inside the call of its function.
-pub fn ways_stay_inside()
-    ensures { WaysStayInside }
+/// A way leaves the frames that are no statements as they are.
+pub fn other_frames_stay()
+    ensures { OtherFramesStay }
 {}
 
 /// A thread goes a way at once: it gets to a later one of its points, with the same open children.

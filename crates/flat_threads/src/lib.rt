@@ -12,7 +12,7 @@
 //! later point, with the same open children, the frames, the row and the turns of the end of the way, and the lines and the fault that it had.
 //! Its parts are laws of their own. By [`threads_are_in_state`] a thread meets what ways ask of a state; by [`threads_come_along`] the way is
 //! one of the thread in the depth-first run; by [`threads_are_in_later_state`] the thread is in the state there; by [`marks_say_nothing`] its
-//! lines and its fault are as they were. By [`words_stay`] it has as many words, and by [`ways_stay_inside`] no other frames but those of
+//! lines and its fault are as they were. By [`words_stay`] it has as many words, and by [`other_frames_stay`] no other frames but those of
 //! statements, so the functions of its calls are as they were.
 //!
 //! By [`ways_leave_less`] each step of a way leaves less to do, so a thread that goes from way to way gets to its next action
@@ -30,7 +30,7 @@
 mod laws;
 
 pub use laws::{
-    marks_say_nothing, rows_stay, steps_leave_less, threads_are_in_later_state,
+    marks_say_nothing, other_frames_stay, rows_stay, steps_leave_less, threads_are_in_later_state,
     threads_are_in_state, threads_come_along, threads_go_their_ways, ways_leave_less,
-    ways_stay_inside, ways_stay_with_more_turns, words_stay,
+    ways_stay_with_more_turns, words_stay,
 };
