@@ -2,3 +2,4 @@ pub mod Starts
 pub mod Threads
 pub mod Marks
 pub mod Sizes
+pub mod Lists

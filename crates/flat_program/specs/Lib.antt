@@ -1,3 +1,4 @@
 pub mod Programs
+pub mod Lists
 pub mod Running
 pub mod Marking

@@ -14,7 +14,11 @@
 //! room before the run. Whether its row is as long as the list says, it asks itself. A frame without a start is no fault: its statement is
 //! done by the thread. What it knows of its way is in `flat_threads`.
 //!
-//! Not there yet: the threads that run by it.
+//! By the clause `bodies` of [`FlatProgram::of`] the body of each function has code (`HasBodies`), if some row that may be has room for its
+//! intermediate numbers and its places have numbers.
+//!
+//! Not there yet: the same of the branches of a `par` and of the body of a `split`, whose slots are those of the function in which they are;
+//! that each such list has a start; and the threads that run by it.
 //!
 //! # Why
 //!

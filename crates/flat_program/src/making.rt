@@ -3,7 +3,12 @@
 ghost use Rattle.std.specs.Prelude.{◌≡◌, ℕ, ◌+◌, ◌^◌, ◌<◌, None, IfOk, IfSome};
 ghost use Rattle.node_table.specs.Codes.{code_shown};
 ghost use Rattle.flat_code.specs.Fits.{CanBeFlat};
+ghost use Rattle.flat_statements.specs.Codes.{IsWholeCode};
+ghost use Rattle.flat_code.specs.Made.{code_length};
+ghost use Rattle.flat_code.specs.Refused.{IfTooLong, most_places};
+ghost use Rattle.flat_code.specs.Shown.{flat_shown};
 ghost use Rattle.flat_program.specs.Programs.{IsFlatList, IsFlatProgram};
+ghost use Rattle.flat_program.specs.Lists.{HasCodeIfCan, HasBodies, Grows, IsPutAfter, most_functions};
 
 use crate::flat_list::FlatList;
 use crate::flat_program::FlatProgram;
@@ -21,11 +26,14 @@ const MOST_NUMBERS: u16 = 256;
 impl FlatProgram {
     /// The flat code of all lists of a program that a thread does not leave by itself. A list of too many places has none.
     ///
+    /// The body of each function that can have code has it, up to a number of functions and of lists that 32 bits can count.
+    ///
     /// # Errors
     ///
     /// There is not enough memory.
     pub fn of(alloc: Global, code: &Code) -> Result<FlatProgram, AllocError>
-        ensures { IfOk result (IsFlatProgram (code_shown code.now)) }
+        ensures program { IfOk result (IsFlatProgram (code_shown code.now)) }
+        ensures bodies { IfOk result (λ p. HasBodies (code_shown code.now) p.lists.items most_functions) }
     {
         let mut program = FlatProgram::without_lists(alloc, code)?;
         program.add_bodies(alloc, code)?;
@@ -51,7 +59,8 @@ impl FlatProgram {
     /// Adds the bodies of functions.
     fn add_bodies(&mut self, alloc: Global, code: &Code) -> Result<(), AllocError>
         requires { IsFlatProgram (code_shown code.now) self.old }
-        ensures { IfOk result (λ _. IsFlatProgram (code_shown code.now) self.new) }
+        ensures program { IfOk result (λ _. IsFlatProgram (code_shown code.now) self.new) }
+        ensures bodies { IfOk result (λ _. HasBodies (code_shown code.now) self.new.lists.items most_functions) }
     {
         for func in 0..u32::MAX {
             let Some(function) = code.func(func) else {
@@ -65,7 +74,8 @@ impl FlatProgram {
     /// Adds the branches of `par` and the bodies of `split`.
     fn add_branches(&mut self, alloc: Global, code: &Code) -> Result<(), AllocError>
         requires { IsFlatProgram (code_shown code.now) self.old }
-        ensures { IfOk result (λ _. IsFlatProgram (code_shown code.now) self.new) }
+        ensures program { IfOk result (λ _. IsFlatProgram (code_shown code.now) self.new) }
+        ensures grows { IfOk result (λ _. Grows self.old.lists.items self.new.lists.items) }
     {
         let owners = owners(alloc, code)?;
         let mut number = 0u32;
@@ -85,7 +95,8 @@ impl FlatProgram {
         slots: u16,
     ) -> Result<(), AllocError>
         requires { IsFlatProgram (code_shown code.now) self.old }
-        ensures { IfOk result (λ _. IsFlatProgram (code_shown code.now) self.new) }
+        ensures program { IfOk result (λ _. IsFlatProgram (code_shown code.now) self.new) }
+        ensures grows { IfOk result (λ _. Grows self.old.lists.items self.new.lists.items) }
     {
         let Some(node) = code.node(number) else {
             return Ok(());
@@ -109,7 +120,9 @@ impl FlatProgram {
         slots: u16,
     ) -> Result<(), AllocError>
         requires { IsFlatProgram (code_shown code.now) self.old }
-        ensures { IfOk result (λ _. IsFlatProgram (code_shown code.now) self.new) }
+        ensures program { IfOk result (λ _. IsFlatProgram (code_shown code.now) self.new) }
+        ensures grows { IfOk result (λ _. Grows self.old.lists.items self.new.lists.items) }
+        ensures has { IfOk result (λ _. HasCodeIfCan (code_shown code.now) self.new.lists.items slots list) }
     {
         let Some(size) = size_for(code, list, slots) else {
             return Ok(());
@@ -125,7 +138,8 @@ impl FlatProgram {
     fn put(&mut self, code: &Code, flat: FlatList) -> Result<(), AllocError>
         requires program { IsFlatProgram (code_shown code.now) self.old }
         requires list { IsFlatList (code_shown code.now) flat }
-        ensures { IfOk result (λ _. IsFlatProgram (code_shown code.now) self.new) }
+        ensures program { IfOk result (λ _. IsFlatProgram (code_shown code.now) self.new) }
+        ensures lists { IfOk result (λ _. IsPutAfter self.old.lists.items flat self.new.lists.items) }
     {
         let Ok(number) = u32::try_from(self.lists.len()) else {
             return Ok(());
@@ -166,7 +180,9 @@ fn flat_list(
     size: u16,
 ) -> Result<FlatList, LowerFail>
     requires { CanBeFlat (code_shown code.now) slots size list }
-    ensures { IfOk result (IsFlatList (code_shown code.now)) }
+    ensures flat { IfOk result (IsFlatList (code_shown code.now)) }
+    ensures code { IfOk result (λ l. (l.slots ≡ slots) × IsWholeCode (code_shown code.now) (flat_shown l.places.items) slots l.size list 0) }
+    ensures long { IfTooLong result (most_places < code_length (code_shown code.now) slots list) }
 {
     let places = lower_whole(alloc, code, list, slots, size)?;
     let deepest = deepest_of(&places);

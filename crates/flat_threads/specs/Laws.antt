@@ -80,7 +80,8 @@ OtherFramesStay =
 abbrev pub ThreadsGoTheirWays : Type 0
 ThreadsGoTheirWays =
     (c : Setting) (t : Table) (g : Func) (gs : List Func) (xs ys zs : List Frame) (one other : ThreadState) (told : Told)
-    (own : List middles.Frame) (at : State) (part : List Item) (older : List (List Item)) → Steps t (standing xs (own_row one) one.turns) (standing ys (own_row other) other.turns)
+    (own : List middles.Frame) (at : State) (part : List Item) (older : List (List Item))
+    → Steps t (standing xs (own_row one) one.turns) (standing ys (own_row other) other.turns)
     → one.faulted ≡ false → DiffersInRow one other → IsThread c own at (part ∷ older) → AreFrames c.program t (g ∷ gs) (xs ++ zs) own
     → IsState (map slot_names (g ∷ gs)) one at → Tells told part
     → HasGone c t (g ∷ gs) ys zs other told own older

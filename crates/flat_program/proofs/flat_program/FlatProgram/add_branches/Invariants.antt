@@ -1,6 +1,7 @@
 use Rattle.node_table.specs.Codes.{code_shown}
 use Rattle.flat_program.specs.Programs.{IsFlatProgram}
+use Rattle.flat_program.specs.Lists.{Grows}
 use Rattle.flat_program.proofs.flat_program.FlatProgram.add_branches.Given as goal
 
 abbrev pub invariant-loop-slots : goal.invariant-loop-slots
-invariant-loop-slots l = IsFlatProgram (code_shown l.fn.code) l.self
+invariant-loop-slots l = IsFlatProgram (code_shown l.fn.code) l.self × Grows l.initial.self.lists.items l.self.lists.items

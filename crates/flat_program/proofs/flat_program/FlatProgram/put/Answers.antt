@@ -6,8 +6,8 @@ use Rattle.flat_program.specs.Programs.{StartsIn}
 use Rattle.flat_program.proofs.Starts.{get_last, each_more}
 use Rattle.flat_program.proofs.flat_program.FlatProgram.put.Goals as goal
 
-pub returns : goal.returns
-returns c =
+pub returns-clause-program : goal.returns-clause-program
+returns-clause-program c =
     let t = code_shown c.args.code.now in
     let before = c.args.self.now.lists.items in
     let flat = c.args.flat in

@@ -1,0 +1,15 @@
+use Rattle.std.proofs.Common.{sym}
+use Rattle.flat_program.specs.Lists.{most_functions}
+use Rattle.flat_program.proofs.Lists.{bodies_all, bodies_next}
+use Rattle.flat_program.proofs.flat_program.FlatProgram.add_bodies.Goals as goal
+
+pub returns-in_default-clause-bodies : goal.returns-in_default-clause-bodies
+returns-in_default-clause-bodies c =
+    bodies_all c.args.code.now c.loop-func.self.lists.items c.loop-func.func most_functions (sym c.in_default.ensures) c.loop-func.invariant.1
+
+pub loop-func-preserved : goal.loop-func-preserved
+loop-func-preserved c = (
+  c.in_ok-add.ensures.program,
+  bodies_next c.args.code.now c.loop-func.self.lists.items c.add.new.self.lists.items c.loop-func.func c.in-Some.function.now (sym c.in-Some.ensures)
+      c.loop-func.invariant.1 c.in_ok-add.ensures.grows c.in_ok-add.ensures.has,
+)
