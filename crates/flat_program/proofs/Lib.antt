@@ -3,3 +3,4 @@ pub mod Threads
 pub mod Marks
 pub mod Sizes
 pub mod Lists
+pub mod Entries

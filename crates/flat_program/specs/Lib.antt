@@ -1,4 +1,5 @@
 pub mod Programs
+pub mod Entries
 pub mod Lists
 pub mod Running
 pub mod Marking

@@ -1,6 +1,7 @@
 ghost use Rattle.std.specs.Prelude.{IfSome};
 ghost use Rattle.node_table.specs.Codes.{code_shown};
 ghost use Rattle.flat_program.specs.Programs.{IsFlatProgram, StartsIn};
+ghost use Rattle.flat_program.specs.Entries.{IsNoted, IsFound};
 
 use crate::flat_list::FlatList;
 use crate::flat_start::FlatStart;
@@ -24,7 +25,8 @@ impl FlatProgram {
     #[inline(always)]
     pub fn start(&self, code: &Code, frame: Frame) -> Option<FlatStart>
         requires { IsFlatProgram (code_shown code.now) self.now }
-        ensures { StartsIn (code_shown code.now) self.now.lists.items result }
+        ensures start { StartsIn (code_shown code.now) self.now.lists.items result }
+        ensures found { IsNoted (code_shown code.now) self.now.starts.items frame → IsFound result }
     {
         let Some(entry) = entry_of(code, frame) else {
             return None;

@@ -1,10 +1,11 @@
 //! Where frames begin in flat code.
 
-ghost use Rattle.std.specs.Prelude.{◌≡◌, List, Some, IsTrue, All, slice_get};
+ghost use Rattle.std.specs.Prelude.{◌≡◌, ℕ, ◌<◌, List, length, Some, IsTrue, All, slice_get};
 ghost use Rattle.node_table.specs.Codes.{code_shown};
 ghost use Rattle.flat_code.specs.Shown.{flat_shown};
 ghost use Rattle.flat_code.specs.Starts.{IsWithinStatement};
 ghost use Rattle.flat_program.specs.Programs.{IsFlatList, StartsIn};
+ghost use Rattle.flat_program.specs.Entries.{entry_of_frame, HasStart, KeepsStarts};
 ghost use Rattle.flat_program.specs.declared.flat_list.FlatList as lists;
 
 use crate::flat_list::FlatList;
@@ -16,7 +17,9 @@ use thread_stack::{Frame, numbers};
 
 /// The number of a frame's entry in the table of starts.
 #[inline(always)]
-pub(crate) fn entry_of(code: &Code, frame: Frame) -> Option<usize> {
+pub(crate) fn entry_of(code: &Code, frame: Frame) -> Option<usize>
+    ensures { result ≡ entry_of_frame (code_shown code.now) frame }
+{
     match frame {
         Frame::Statements { list, next } => {
             let number = numbers(code, list).get(next)?;
@@ -29,8 +32,11 @@ pub(crate) fn entry_of(code: &Code, frame: Frame) -> Option<usize> {
 
 /// Notes where a frame begins.
 fn note(starts: &mut Vec<Option<FlatStart>>, code: &Code, frame: Frame, start: FlatStart)
-    ensures { (ls : List lists.FlatList) → StartsIn (code_shown code.now) ls (Some start)
+    ensures starts { (ls : List lists.FlatList) → StartsIn (code_shown code.now) ls (Some start)
         → All (StartsIn (code_shown code.now) ls) starts.old.items → All (StartsIn (code_shown code.now) ls) starts.new.items }
+    ensures keeps { KeepsStarts starts.old.items starts.new.items }
+    ensures has { (entry : ℕ) → entry_of_frame (code_shown code.now) frame ≡ Some entry → entry < length starts.old.items
+        → HasStart starts.new.items entry }
 {
     let Some(entry) = entry_of(code, frame) else {
         return;
@@ -65,8 +71,9 @@ fn note_at(
     place: usize,
 )
     requires { IsFlatList (code_shown code.now) flat.now }
-    ensures { (ls : List lists.FlatList) → slice_get ls list ≡ Some flat.now
+    ensures starts { (ls : List lists.FlatList) → slice_get ls list ≡ Some flat.now
         → All (StartsIn (code_shown code.now) ls) starts.old.items → All (StartsIn (code_shown code.now) ls) starts.new.items }
+    ensures keeps { KeepsStarts starts.old.items starts.new.items }
 {
     let Some(here) = flat.places.get(place) else {
         return;
@@ -85,8 +92,9 @@ fn note_at(
 /// Notes where the frames of a list begin.
 pub(crate) fn note_all(starts: &mut Vec<Option<FlatStart>>, code: &Code, flat: &FlatList, list: u32)
     requires { IsFlatList (code_shown code.now) flat.now }
-    ensures { (ls : List lists.FlatList) → slice_get ls list ≡ Some flat.now
+    ensures starts { (ls : List lists.FlatList) → slice_get ls list ≡ Some flat.now
         → All (StartsIn (code_shown code.now) ls) starts.old.items → All (StartsIn (code_shown code.now) ls) starts.new.items }
+    ensures keeps { KeepsStarts starts.old.items starts.new.items }
 {
     for place in 0..flat.places.len() {
         note_at(starts, code, flat, list, place);

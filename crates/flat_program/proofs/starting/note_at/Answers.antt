@@ -4,8 +4,8 @@ use Rattle.flat_code.specs.Starts.{IsWithinStatement}
 use Rattle.flat_program.proofs.Starts.{places_long}
 use Rattle.flat_program.proofs.starting.note_at.Goals as goal
 
-pub returns-in-Some-last : goal.returns-in-Some-last
-returns-in-Some-last c ls is all =
+pub returns-in-Some-last-clause-starts : goal.returns-in-Some-last-clause-starts
+returns-in-Some-last-clause-starts c ls is all =
     let flat = c.args.flat.now in
     let items = flat.places.items in
     let first : IsTrue c.is_first.result = search rules in
@@ -16,5 +16,5 @@ returns-in-Some-last c ls is all =
     let within : c.args.place < length (flat_shown items).places = omega (arith, below, long, all_long) in
     let not_within : IsWithinStatement (flat_shown items) c.args.place → ⊥ =
     subst (λ ps. IsWithinStatement (flat_shown ps) c.args.place → ⊥) c.deref-2.ensures.value (c.is_first.ensures first) in
-    c.note.ensures ls
+    c.note.ensures.starts ls
     (flat, is, record { code = c.requires.others c.args.place within not_within; forward = c.requires.forward; room = c.requires.room; deep = c.requires.deep }) all

@@ -15,4 +15,4 @@ returns-clause-program c =
     let last : slice_get (before ++ flat ∷ []) c.in-Ok.number ≡ Some flat = ap (λ i. slice_get (before ++ flat ∷ []) i) number ∙ get_last before flat in
     let items : c.push_reserved.new.self.items ≡ before ++ flat ∷ [] = search rules in
     subst (λ (ls : List FlatList). All (StartsIn t ls) c.note_all.new.starts.items) (sym items)
-    (c.note_all.ensures (before ++ flat ∷ []) last (each_more t before flat c.args.self.now.starts.items c.requires.program))
+    (c.note_all.ensures.starts (before ++ flat ∷ []) last (each_more t before flat c.args.self.now.starts.items c.requires.program))

@@ -1,0 +1,40 @@
+-- Starts that are noted.
+use Rattle.std.proofs.Common.{inl, inr, ◌≡◌, ℕ, zero, suc, ◌<◌, List, [], ◌∷◌, length, set, Option, Some, slice_get, refl, sym, ap, ◌∙◌, subst, arith, length-set}
+use Rattle.std.specs.Prelude.{◌⊎◌}
+use Rattle.std.proofs.lemmas.Bool.{cases_eq}
+use Rattle.flat_program.specs.declared.flat_start.FlatStart.{FlatStart}
+use Rattle.flat_program.specs.Entries.{HasStart, KeepsStarts}
+
+pub get_set : {A : Type 0} (xs : List A) (i : ℕ) (x : A) → i < length xs → slice_get (set xs i x) i ≡ Some x
+get_set [] i x within = absurd (omega (arith, within))
+get_set (y ∷ xs) zero x within = refl
+get_set (y ∷ xs) (suc i) x within = get_set xs i x (omega (arith, within))
+
+get_other : {A : Type 0} (xs : List A) (i j : ℕ) (x : A) → (j ≡ i → ⊥) → slice_get (set xs i x) j ≡ slice_get xs j
+get_other [] i j x differ = refl
+get_other (y ∷ xs) zero zero x differ = absurd (differ refl)
+get_other (y ∷ xs) zero (suc j) x differ = refl
+get_other (y ∷ xs) (suc i) zero x differ = refl
+get_other (y ∷ xs) (suc i) (suc j) x differ = get_other xs i j x (λ e. differ (ap suc e))
+
+pub keeps_same : (xs : List (Option FlatStart)) → KeepsStarts xs xs
+keeps_same xs = record { long = refl; kept = λ entry h. h }
+
+pub keeps_both : (xs ys zs : List (Option FlatStart)) → KeepsStarts xs ys → KeepsStarts ys zs → KeepsStarts xs zs
+keeps_both xs ys zs p q = record { long = q.long ∙ p.long; kept = λ entry h. q.kept entry (p.kept entry h) }
+
+pub keeps_set : (xs : List (Option FlatStart)) (i : ℕ) (s : FlatStart) → i < length xs → KeepsStarts xs (set xs i (Some s))
+keeps_set xs i s within = record { long = length-set xs i (Some s); kept = λ entry h. by entry h (cases_eq entry i) }
+  where
+    by : (entry : ℕ) → HasStart xs entry → (entry ≡ i) ⊎ (entry ≡ i → ⊥) → HasStart (set xs i (Some s)) entry
+    by entry h (inl e) = (s, subst (λ (j : ℕ). slice_get (set xs i (Some s)) j ≡ Some (Some s)) (sym e) (get_set xs i (Some s) within))
+    by entry h (inr differ) = (h.0, get_other xs i entry (Some s) differ ∙ h.1)
+
+some_same : {A : Type 0} (x y : A) → Some x ≡ Some y → x ≡ y
+some_same x y e = cc
+
+pub set_has : (xs : List (Option FlatStart)) (i : ℕ) (s : FlatStart) (o : Option ℕ) (entry : ℕ) → Some i ≡ o → o ≡ Some entry → entry < length xs
+    → HasStart (set xs i (Some s)) entry
+set_has xs i s o entry is here within =
+    let e : i ≡ entry = some_same i entry (is ∙ here) in
+    (s, subst (λ (j : ℕ). slice_get (set xs j (Some s)) entry ≡ Some (Some s)) (sym e) (get_set xs entry (Some s) within))
