@@ -2,8 +2,10 @@
 use Rattle.std.proofs.Common.{inl, inr, ◌≡◌, ℕ, zero, suc, ◌<◌, List, [], ◌∷◌, length, set, Option, Some, slice_get, refl, sym, ap, ◌∙◌, subst, arith, length-set}
 use Rattle.std.specs.Prelude.{◌⊎◌}
 use Rattle.std.proofs.lemmas.Bool.{cases_eq}
+use Rattle.node_table.specs.Table.{Table}
+use Rattle.flat_program.specs.declared.flat_list.FlatList.{FlatList}
 use Rattle.flat_program.specs.declared.flat_start.FlatStart.{FlatStart}
-use Rattle.flat_program.specs.Entries.{HasStart, KeepsStarts}
+use Rattle.flat_program.specs.Entries.{HasStart, KeepsStarts, BeginsWith}
 
 pub get_set : {A : Type 0} (xs : List A) (i : ℕ) (x : A) → i < length xs → slice_get (set xs i x) i ≡ Some x
 get_set [] i x within = absurd (omega (arith, within))
@@ -38,3 +40,11 @@ pub set_has : (xs : List (Option FlatStart)) (i : ℕ) (s : FlatStart) (o : Opti
 set_has xs i s o entry is here within =
     let e : i ≡ entry = some_same i entry (is ∙ here) in
     (s, subst (λ (j : ℕ). slice_get (set xs j (Some s)) entry ≡ Some (Some s)) (sym e) (get_set xs entry (Some s) within))
+
+-- a place was looked at, the first one or a later one
+pub noted_next : (t : Table) (l : FlatList) (xs ys zs : List (Option FlatStart)) (place entry : ℕ) → KeepsStarts xs ys → KeepsStarts ys zs
+    → (0 < place → (e : ℕ) → BeginsWith t l e → e < length xs → HasStart ys e) → (place ≡ 0 → (e : ℕ) → BeginsWith t l e → e < length ys → HasStart zs e)
+    → BeginsWith t l entry → entry < length xs → HasStart zs entry
+noted_next t l xs ys zs zero entry before now earlier at_start begins within =
+    let long = before.long in at_start refl entry begins (omega (arith, within, long))
+noted_next t l xs ys zs (suc place) entry before now earlier at_start begins within = now.kept entry (earlier (omega arith) entry begins within)

@@ -5,7 +5,7 @@ ghost use Rattle.node_table.specs.Codes.{code_shown};
 ghost use Rattle.flat_code.specs.Shown.{flat_shown};
 ghost use Rattle.flat_code.specs.Starts.{IsWithinStatement};
 ghost use Rattle.flat_program.specs.Programs.{IsFlatList, StartsIn};
-ghost use Rattle.flat_program.specs.Entries.{entry_of_frame, HasStart, KeepsStarts};
+ghost use Rattle.flat_program.specs.Entries.{entry_of_frame, HasStart, KeepsStarts, BeginsWith};
 ghost use Rattle.flat_program.specs.declared.flat_list.FlatList as lists;
 
 use crate::flat_list::FlatList;
@@ -48,7 +48,8 @@ fn note(starts: &mut Vec<Option<FlatStart>>, code: &Code, frame: Frame, start: F
 
 /// Whether a place has another mark than the place before it.
 fn is_first(places: &[Place], at: usize) -> bool
-    ensures { IsTrue result → IsWithinStatement (flat_shown places.now) at → ⊥ }
+    ensures first { IsTrue result → IsWithinStatement (flat_shown places.now) at → ⊥ }
+    ensures at_start { at ≡ 0 → IsTrue result }
 {
     if at == 0 {
         return true;
@@ -74,6 +75,8 @@ fn note_at(
     ensures starts { (ls : List lists.FlatList) → slice_get ls list ≡ Some flat.now
         → All (StartsIn (code_shown code.now) ls) starts.old.items → All (StartsIn (code_shown code.now) ls) starts.new.items }
     ensures keeps { KeepsStarts starts.old.items starts.new.items }
+    ensures has { place ≡ 0 → (entry : ℕ) → BeginsWith (code_shown code.now) flat.now entry → entry < length starts.old.items
+        → HasStart starts.new.items entry }
 {
     let Some(here) = flat.places.get(place) else {
         return;
@@ -95,6 +98,8 @@ pub(crate) fn note_all(starts: &mut Vec<Option<FlatStart>>, code: &Code, flat: &
     ensures starts { (ls : List lists.FlatList) → slice_get ls list ≡ Some flat.now
         → All (StartsIn (code_shown code.now) ls) starts.old.items → All (StartsIn (code_shown code.now) ls) starts.new.items }
     ensures keeps { KeepsStarts starts.old.items starts.new.items }
+    ensures has { (entry : ℕ) → BeginsWith (code_shown code.now) flat.now entry → entry < length starts.old.items
+        → HasStart starts.new.items entry }
 {
     for place in 0..flat.places.len() {
         note_at(starts, code, flat, list, place);

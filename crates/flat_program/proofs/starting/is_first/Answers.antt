@@ -3,8 +3,8 @@ use Rattle.std.proofs.lemmas.Option.{slice_get_read}
 use Rattle.flat_program.proofs.Starts.{same_mark}
 use Rattle.flat_program.proofs.starting.is_first.Goals as goal
 
-pub returns : goal.returns
-returns c other same =
+pub returns-clause-first : goal.returns-clause-first
+returns-clause-first c other same =
     let places = c.args.places.now in
     let at = c.args.at in
     let before = c.in-Some.before.now in

@@ -15,6 +15,6 @@ returns-in-Some-last-clause-starts c ls is all =
     let all_long = places_long items in
     let within : c.args.place < length (flat_shown items).places = omega (arith, below, long, all_long) in
     let not_within : IsWithinStatement (flat_shown items) c.args.place → ⊥ =
-    subst (λ ps. IsWithinStatement (flat_shown ps) c.args.place → ⊥) c.deref-2.ensures.value (c.is_first.ensures first) in
+    subst (λ ps. IsWithinStatement (flat_shown ps) c.args.place → ⊥) c.deref-2.ensures.value (c.is_first.ensures.first first) in
     c.note.ensures.starts ls
     (flat, is, record { code = c.requires.others c.args.place within not_within; forward = c.requires.forward; room = c.requires.room; deep = c.requires.deep }) all
