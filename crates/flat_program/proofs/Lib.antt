@@ -4,3 +4,4 @@ pub mod Marks
 pub mod Sizes
 pub mod Lists
 pub mod Entries
+pub mod First

@@ -1,7 +1,7 @@
 -- Lists that are made after others.
 use Rattle.std.proofs.Common.{inl, inr, ◌≡◌, ℕ, zero, suc, ◌+◌, ◌<◌, ◌≤◌, List, [], ◌∷◌}
 use Rattle.std.proofs.Common.{◌++◌, length, Some, None, slice_get, sym, ap, ◌∙◌, subst, arith, append_assoc, append-nil}
-use Rattle.std.specs.Prelude.{◌⊎◌, map}
+use Rattle.std.specs.Prelude.{Result, Ok, Err, IfOk, ◌*◌, ◌⊎◌, map}
 use Rattle.std.proofs.lemmas.Bool.{cases_lt}
 use Rattle.node_table.specs.Table.{Function, Table}
 use Rattle.node_table.specs.Codes.{funcs_of, code_shown}
@@ -13,7 +13,10 @@ use Rattle.thread_stack.specs.declared.list_of.ListOf.TheVariants.{Body}
 use Rattle.flat_statements.specs.Codes.{IsWholeCode}
 use Rattle.flat_code.specs.Shown.{flat_shown}
 use Rattle.flat_program.specs.declared.flat_list.FlatList.{FlatList}
-use Rattle.flat_program.specs.Lists.{HasCodeIfCan, HasBodies, Grows, IsPutAfter}
+use Rattle.flat_program.specs.declared.flat_program.FlatProgram.{FlatProgram}
+use Rattle.flat_program.specs.Entries.{KeepsStarts, BeginsWith, HasStart}
+use Rattle.flat_program.proofs.First.{begins_with}
+use Rattle.flat_program.specs.Lists.{HasCodeIfCan, HasBodies, HasStartIfCan, HasBodyStarts, Grows, IsPutAfter, most_lists}
 use Rattle.flat_program.proofs.Starts.{get_last}
 
 get_more : {A : Type 0} (xs ys : List A) (i : ℕ) (x : A) → slice_get xs i ≡ Some x → slice_get (xs ++ ys) i ≡ Some x
@@ -102,3 +105,53 @@ bodies_all code ls many most none has func f below is = by (cases_lt func many)
     by : (func < many) ⊎ (many ≤ func) → HasCodeIfCan (code_shown code) ls f.slots (Body func)
     by (inl less) = has func f less is
     by (inr more) = absurd (none_after func_shown (funcs_of code) many func f none more is)
+
+-- ---- starts
+
+begin_more : (t : Table) (p q : FlatProgram) (k : ℕ) (list : ListOf) → Grows p.lists.items q.lists.items → KeepsStarts p.starts.items q.starts.items
+    → HasStartIfCan t p k list → HasStartIfCan t q k list
+begin_more t p q k list grown keeps has can few n first within =
+    let e : length q.lists.items ≡ length (p.lists.items ++ grown.0) = ap (λ (xs : List FlatList). length xs) grown.1 in
+    let more = long_more p.lists.items grown.0 in
+    let long = keeps.long in
+    keeps.kept (n * 2) (has can (omega (arith, e, more, few)) n first (omega (arith, long, within)))
+
+pub starts_more : (t : Table) (p q : FlatProgram) (many : ℕ) → Grows p.lists.items q.lists.items → KeepsStarts p.starts.items q.starts.items
+    → HasBodyStarts t p many → HasBodyStarts t q many
+starts_more t p q many grown keeps has func f below there = begin_more t p q f.slots _ grown keeps (has func f below there)
+
+pub starts_next : (code : Code) (p q : FlatProgram) (many : ℕ) (g : FuncCode) → slice_get (funcs_of code) many ≡ Some g
+    → HasBodyStarts (code_shown code) p many → Grows p.lists.items q.lists.items → KeepsStarts p.starts.items q.starts.items
+    → HasStartIfCan (code_shown code) q g.slots (Body many) → HasBodyStarts (code_shown code) q (many + 1)
+starts_next code p q many g there has grown keeps now func f below is = by (cases_lt func many)
+  where
+    by : (func < many) ⊎ (many ≤ func) → HasStartIfCan (code_shown code) q f.slots (Body func)
+    by (inl less) = starts_more (code_shown code) p q many grown keeps has func f less is
+    by (inr more) =
+        let e : func ≡ many = omega (arith, below, more) in
+        let here : slice_get (code_shown code).funcs many ≡ Some f = subst (λ (n : ℕ). slice_get (code_shown code).funcs n ≡ Some f) e is in
+        let same : func_shown g ≡ f = some_same (func_shown g) f (sym (get_shown func_shown (funcs_of code) many g there) ∙ here) in
+        subst (λ (h : Function). HasStartIfCan (code_shown code) q h.slots (Body func)) same
+        (subst (λ (n : ℕ). HasStartIfCan (code_shown code) q g.slots (Body n)) (sym e) now)
+
+pub starts_all : (code : Code) (p : FlatProgram) (many most : ℕ) → slice_get (funcs_of code) many ≡ None → HasBodyStarts (code_shown code) p many
+    → HasBodyStarts (code_shown code) p most
+starts_all code p many most none has func f below is = by (cases_lt func many)
+  where
+    by : (func < many) ⊎ (many ≤ func) → HasStartIfCan (code_shown code) p f.slots (Body func)
+    by (inl less) = has func f less is
+    by (inr more) = absurd (none_after func_shown (funcs_of code) many func f none more is)
+
+pub starts_below : (t : Table) (p : FlatProgram) (many most : ℕ) → most ≤ many → HasBodyStarts t p many → HasBodyStarts t p most
+starts_below t p many most low has func f below is = has func f (omega (arith, low, below)) is
+
+pub put_begins : (t : Table) (p q : FlatProgram) (l : FlatList) (k : ℕ) (list : ListOf) → IsWholeCode t (flat_shown l.places.items) k l.size list 0
+    → KeepsStarts p.starts.items q.starts.items
+    → ((entry : ℕ) → length q.lists.items < most_lists → BeginsWith t l entry → entry < length p.starts.items → HasStart q.starts.items entry)
+    → HasStartIfCan t q k list
+put_begins t p q l k list whole keeps noted can few n first within =
+    let long = keeps.long in noted (n * 2) few (begins_with t l k list n whole first) (omega (arith, long, within))
+
+pub IfOk-and : {T E : Type 0} (r : Result T E) (P Q : T → Type 0) → IfOk r P → IfOk r Q → IfOk r (λ v. P v × Q v)
+IfOk-and (Ok v) P Q p q = (p, q)
+IfOk-and (Err e) P Q p q = tt

@@ -1,14 +1,17 @@
 -- Which lists of statements a program has flat code of.
-use Rattle.std.specs.Prelude.{◌≡◌, ℕ, ◌+◌, ◌^◌, ◌<◌, ◌≤◌, ◌⊎◌, List, [], ◌∷◌, ◌++◌, length, Some, slice_get}
+use Rattle.std.specs.Prelude.{◌≡◌, ℕ, ◌+◌, ◌*◌, ◌^◌, ◌<◌, ◌≤◌, ◌⊎◌, List, [], ◌∷◌, ◌++◌, length, Some, slice_get}
 use Rattle.node_table.specs.Table.{Function, Table}
 use Rattle.thread_stack.specs.declared.list_of.ListOf.{ListOf}
 use Rattle.thread_stack.specs.declared.list_of.ListOf.TheVariants.{Body}
+use Rattle.thread_stack.specs.Lists.{numbers_of}
 use Rattle.flat_statements.specs.Codes.{IsWholeCode}
 use Rattle.flat_code.specs.Fits.{CanBeFlat}
 use Rattle.flat_code.specs.Made.{code_length}
 use Rattle.flat_code.specs.Refused.{most_places}
 use Rattle.flat_code.specs.Shown.{flat_shown}
 use Rattle.flat_program.specs.declared.flat_list.FlatList.{FlatList}
+use Rattle.flat_program.specs.declared.flat_program.FlatProgram.{FlatProgram}
+use Rattle.flat_program.specs.Entries.{HasStart}
 
 -- for how many intermediate numbers a row may have slots
 abbrev pub most_numbers : ℕ
@@ -54,3 +57,13 @@ Grows before after = (more : List FlatList) × (after ≡ before ++ more)
 -- a list is put after the others, if there is a number for it
 abbrev pub IsPutAfter : (before : List FlatList) → FlatList → (after : List FlatList) → Type 0
 IsPutAfter before flat after = (after ≡ before ++ flat ∷ []) ⊎ ((after ≡ before) × (most_lists ≤ length before))
+
+-- the first statement of a list that can have code has a start, if there are numbers for all lists
+abbrev pub HasStartIfCan : Table → FlatProgram → (k : ℕ) → ListOf → Type 0
+HasStartIfCan t p k list =
+    CanHaveCode t k list → length p.lists.items < most_lists → (n : ℕ) → slice_get (numbers_of t list) 0 ≡ Some n → n * 2 < length p.starts.items
+    → HasStart p.starts.items (n * 2)
+
+-- that of the body of each of so many functions has one
+abbrev pub HasBodyStarts : Table → FlatProgram → (many : ℕ) → Type 0
+HasBodyStarts t p many = (func : ℕ) (f : Function) → func < many → slice_get t.funcs func ≡ Some f → HasStartIfCan t p f.slots (Body func)

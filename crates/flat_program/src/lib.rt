@@ -14,11 +14,12 @@
 //! room before the run. Whether its row is as long as the list says, it asks itself. A frame without a start is no fault: its statement is
 //! done by the thread. What it knows of its way is in `flat_threads`.
 //!
-//! By the clause `bodies` of [`FlatProgram::of`] the body of each function has code (`HasBodies`), if some row that may be has room for its
-//! intermediate numbers and its places have numbers.
+//! By the clauses `bodies` and `begins` of [`FlatProgram::of`] the body of each function has code (`HasBodies`), and its first statement has a
+//! start (`HasBodyStarts`), if some row that may be has room for its intermediate numbers and its places have numbers. A frame with a start
+//! is found by [`FlatProgram::start`].
 //!
 //! Not there yet: the same of the branches of a `par` and of the body of a `split`, whose slots are those of the function in which they are;
-//! that each such list has a start; and the threads that run by it.
+//! and the threads that run by it.
 //!
 //! # Why
 //!

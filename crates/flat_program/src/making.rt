@@ -1,6 +1,6 @@
 //! Makes the flat code of a program.
 
-ghost use Rattle.std.specs.Prelude.{◌≡◌, ℕ, ◌+◌, ◌^◌, ◌<◌, None, IfOk, IfSome};
+ghost use Rattle.std.specs.Prelude.{◌≡◌, ℕ, ◌+◌, ◌^◌, ◌<◌, length, None, IfOk, IfSome};
 ghost use Rattle.node_table.specs.Codes.{code_shown};
 ghost use Rattle.flat_code.specs.Fits.{CanBeFlat};
 ghost use Rattle.flat_statements.specs.Codes.{IsWholeCode};
@@ -8,7 +8,8 @@ ghost use Rattle.flat_code.specs.Made.{code_length};
 ghost use Rattle.flat_code.specs.Refused.{IfTooLong, most_places};
 ghost use Rattle.flat_code.specs.Shown.{flat_shown};
 ghost use Rattle.flat_program.specs.Programs.{IsFlatList, IsFlatProgram};
-ghost use Rattle.flat_program.specs.Lists.{HasCodeIfCan, HasBodies, Grows, IsPutAfter, most_functions};
+ghost use Rattle.flat_program.specs.Entries.{KeepsStarts, BeginsWith, HasStart};
+ghost use Rattle.flat_program.specs.Lists.{HasCodeIfCan, HasBodies, HasStartIfCan, HasBodyStarts, Grows, IsPutAfter, most_functions, most_lists};
 
 use crate::flat_list::FlatList;
 use crate::flat_program::FlatProgram;
@@ -34,6 +35,7 @@ impl FlatProgram {
     pub fn of(alloc: Global, code: &Code) -> Result<FlatProgram, AllocError>
         ensures program { IfOk result (IsFlatProgram (code_shown code.now)) }
         ensures bodies { IfOk result (λ p. HasBodies (code_shown code.now) p.lists.items most_functions) }
+        ensures begins { IfOk result (λ p. HasBodyStarts (code_shown code.now) p most_functions) }
     {
         let mut program = FlatProgram::without_lists(alloc, code)?;
         program.add_bodies(alloc, code)?;
@@ -61,6 +63,7 @@ impl FlatProgram {
         requires { IsFlatProgram (code_shown code.now) self.old }
         ensures program { IfOk result (λ _. IsFlatProgram (code_shown code.now) self.new) }
         ensures bodies { IfOk result (λ _. HasBodies (code_shown code.now) self.new.lists.items most_functions) }
+        ensures begins { IfOk result (λ _. HasBodyStarts (code_shown code.now) self.new most_functions) }
     {
         for func in 0..u32::MAX {
             let Some(function) = code.func(func) else {
@@ -76,6 +79,7 @@ impl FlatProgram {
         requires { IsFlatProgram (code_shown code.now) self.old }
         ensures program { IfOk result (λ _. IsFlatProgram (code_shown code.now) self.new) }
         ensures grows { IfOk result (λ _. Grows self.old.lists.items self.new.lists.items) }
+        ensures keeps { IfOk result (λ _. KeepsStarts self.old.starts.items self.new.starts.items) }
     {
         let owners = owners(alloc, code)?;
         let mut number = 0u32;
@@ -97,6 +101,7 @@ impl FlatProgram {
         requires { IsFlatProgram (code_shown code.now) self.old }
         ensures program { IfOk result (λ _. IsFlatProgram (code_shown code.now) self.new) }
         ensures grows { IfOk result (λ _. Grows self.old.lists.items self.new.lists.items) }
+        ensures keeps { IfOk result (λ _. KeepsStarts self.old.starts.items self.new.starts.items) }
     {
         let Some(node) = code.node(number) else {
             return Ok(());
@@ -123,6 +128,8 @@ impl FlatProgram {
         ensures program { IfOk result (λ _. IsFlatProgram (code_shown code.now) self.new) }
         ensures grows { IfOk result (λ _. Grows self.old.lists.items self.new.lists.items) }
         ensures has { IfOk result (λ _. HasCodeIfCan (code_shown code.now) self.new.lists.items slots list) }
+        ensures keeps { IfOk result (λ _. KeepsStarts self.old.starts.items self.new.starts.items) }
+        ensures begins { IfOk result (λ _. HasStartIfCan (code_shown code.now) self.new slots list) }
     {
         let Some(size) = size_for(code, list, slots) else {
             return Ok(());
@@ -140,6 +147,9 @@ impl FlatProgram {
         requires list { IsFlatList (code_shown code.now) flat }
         ensures program { IfOk result (λ _. IsFlatProgram (code_shown code.now) self.new) }
         ensures lists { IfOk result (λ _. IsPutAfter self.old.lists.items flat self.new.lists.items) }
+        ensures keeps { IfOk result (λ _. KeepsStarts self.old.starts.items self.new.starts.items) }
+        ensures noted { IfOk result (λ _. (entry : ℕ) → length self.new.lists.items < most_lists → BeginsWith (code_shown code.now) flat entry
+            → entry < length self.old.starts.items → HasStart self.new.starts.items entry) }
     {
         let Ok(number) = u32::try_from(self.lists.len()) else {
             return Ok(());

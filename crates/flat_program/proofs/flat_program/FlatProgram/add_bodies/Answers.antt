@@ -1,6 +1,7 @@
-use Rattle.std.proofs.Common.{sym}
+use Rattle.std.proofs.Common.{◌≤◌, sym, rules}
+use Rattle.node_table.specs.Codes.{code_shown}
 use Rattle.flat_program.specs.Lists.{most_functions}
-use Rattle.flat_program.proofs.Lists.{bodies_all, bodies_next}
+use Rattle.flat_program.proofs.Lists.{bodies_all, bodies_next, starts_all, starts_below, starts_next}
 use Rattle.flat_program.proofs.flat_program.FlatProgram.add_bodies.Goals as goal
 
 pub returns-in_default-clause-bodies : goal.returns-in_default-clause-bodies
@@ -12,4 +13,15 @@ loop-func-preserved c = (
   c.in_ok-add.ensures.program,
   bodies_next c.args.code.now c.loop-func.self.lists.items c.add.new.self.lists.items c.loop-func.func c.in-Some.function.now (sym c.in-Some.ensures)
       c.loop-func.invariant.1 c.in_ok-add.ensures.grows c.in_ok-add.ensures.has,
+  starts_next c.args.code.now c.loop-func.self c.add.new.self c.loop-func.func c.in-Some.function.now (sym c.in-Some.ensures)
+      c.loop-func.invariant.2 c.in_ok-add.ensures.grows c.in_ok-add.ensures.keeps c.in_ok-add.ensures.begins,
 )
+
+pub returns-in_default-clause-begins : goal.returns-in_default-clause-begins
+returns-in_default-clause-begins c =
+    starts_all c.args.code.now c.loop-func.self c.loop-func.func most_functions (sym c.in_default.ensures) c.loop-func.invariant.2
+
+pub returns-clause-begins : goal.returns-clause-begins
+returns-clause-begins c =
+    let end : most_functions ≤ c.loop-func.func = search rules in
+    starts_below (code_shown c.args.code.now) c.loop-func.self c.loop-func.func most_functions end c.loop-func.invariant.2
