@@ -1,5 +1,10 @@
 -- Starts that are noted.
-use Rattle.std.proofs.Common.{inl, inr, ◌≡◌, ℕ, zero, suc, ◌<◌, List, [], ◌∷◌, length, set, Option, Some, slice_get, refl, sym, ap, ◌∙◌, subst, arith, length-set}
+use Rattle.std.proofs.Common.{inl, inr, ◌≡◌, ℕ, zero, suc, ◌<◌, List, [], ◌∷◌, length, set}
+use Rattle.std.proofs.Common.{Option, Some, slice_get, refl, sym, ap, ◌∙◌, subst, arith, length-set, ◌+◌, ◌*◌, ◌++◌}
+use Rattle.std.proofs.lemmas.List.{length-map}
+use Rattle.node_table.specs.Codes.{nodes_of, code_shown}
+use Rattle.node_table.specs.Shown.{node_shown}
+use Rattle.node_table.specs.declared.code.Code.{Code}
 use Rattle.std.specs.Prelude.{◌⊎◌}
 use Rattle.std.proofs.lemmas.Bool.{cases_eq}
 use Rattle.node_table.specs.Table.{Table}
@@ -48,3 +53,13 @@ pub noted_next : (t : Table) (l : FlatList) (xs ys zs : List (Option FlatStart))
 noted_next t l xs ys zs zero entry before now earlier at_start begins within =
     let long = before.long in at_start refl entry begins (omega (arith, within, long))
 noted_next t l xs ys zs (suc place) entry before now earlier at_start begins within = now.kept entry (earlier (omega arith) entry begins within)
+
+-- two entries more, and the entries of all nodes
+pub two_longer : (xs : List (Option FlatStart)) (x y : Option FlatStart) → length ((xs ++ x ∷ []) ++ y ∷ []) ≡ length xs + 2
+two_longer [] x y = refl
+two_longer (z ∷ xs) x y = let rest = two_longer xs x y in omega (arith, rest)
+
+pub all_sized : (code : Code) (n m : ℕ) → m ≡ n * 2 → n ≡ length (nodes_of code) → m ≡ length (code_shown code).nodes * 2
+all_sized code n m twice all =
+    let e : length (code_shown code).nodes ≡ length (nodes_of code) = length-map (nodes_of code) node_shown in
+    omega (arith, twice, all, e)

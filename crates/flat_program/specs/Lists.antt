@@ -67,3 +67,7 @@ HasStartIfCan t p k list =
 -- that of the body of each of so many functions has one
 abbrev pub HasBodyStarts : Table → FlatProgram → (many : ℕ) → Type 0
 HasBodyStarts t p many = (func : ℕ) (f : Function) → func < many → slice_get t.funcs func ≡ Some f → HasStartIfCan t p f.slots (Body func)
+
+-- there are two entries for the starts of each node
+abbrev pub IsSized : Table → FlatProgram → Type 0
+IsSized t p = length p.starts.items ≡ length t.nodes * 2

@@ -9,7 +9,7 @@ ghost use Rattle.flat_code.specs.Refused.{IfTooLong, most_places};
 ghost use Rattle.flat_code.specs.Shown.{flat_shown};
 ghost use Rattle.flat_program.specs.Programs.{IsFlatList, IsFlatProgram};
 ghost use Rattle.flat_program.specs.Entries.{KeepsStarts, BeginsWith, HasStart};
-ghost use Rattle.flat_program.specs.Lists.{HasCodeIfCan, HasBodies, HasStartIfCan, HasBodyStarts, Grows, IsPutAfter, most_functions, most_lists};
+ghost use Rattle.flat_program.specs.Lists.{HasCodeIfCan, HasBodies, HasStartIfCan, HasBodyStarts, IsSized, Grows, IsPutAfter, most_functions, most_lists};
 
 use crate::flat_list::FlatList;
 use crate::flat_program::FlatProgram;
@@ -35,6 +35,7 @@ impl FlatProgram {
     pub fn of(alloc: Global, code: &Code) -> Result<FlatProgram, AllocError>
         ensures program { IfOk result (IsFlatProgram (code_shown code.now)) }
         ensures bodies { IfOk result (λ p. HasBodies (code_shown code.now) p.lists.items most_functions) }
+        ensures sized { IfOk result (λ p. IsSized (code_shown code.now) p) }
         ensures begins { IfOk result (λ p. HasBodyStarts (code_shown code.now) p most_functions) }
     {
         let mut program = FlatProgram::without_lists(alloc, code)?;
@@ -45,10 +46,11 @@ impl FlatProgram {
 
     /// No list, and no start of any node.
     fn without_lists(alloc: Global, code: &Code) -> Result<FlatProgram, AllocError>
-        ensures { IfOk result (IsFlatProgram (code_shown code.now)) }
+        ensures program { IfOk result (IsFlatProgram (code_shown code.now)) }
+        ensures sized { IfOk result (λ p. IsSized (code_shown code.now) p) }
     {
         let mut starts = Vec::new(alloc);
-        for _ in 0..code.len() {
+        for _number in 0..code.len() {
             starts.push(None)?;
             starts.push(None)?;
         }
@@ -63,6 +65,7 @@ impl FlatProgram {
         requires { IsFlatProgram (code_shown code.now) self.old }
         ensures program { IfOk result (λ _. IsFlatProgram (code_shown code.now) self.new) }
         ensures bodies { IfOk result (λ _. HasBodies (code_shown code.now) self.new.lists.items most_functions) }
+        ensures keeps { IfOk result (λ _. KeepsStarts self.old.starts.items self.new.starts.items) }
         ensures begins { IfOk result (λ _. HasBodyStarts (code_shown code.now) self.new most_functions) }
     {
         for func in 0..u32::MAX {

@@ -1,6 +1,7 @@
 use Rattle.std.proofs.Common.{◌≤◌, sym, rules}
 use Rattle.node_table.specs.Codes.{code_shown}
 use Rattle.flat_program.specs.Lists.{most_functions}
+use Rattle.flat_program.proofs.Entries.{keeps_both}
 use Rattle.flat_program.proofs.Lists.{bodies_all, bodies_next, starts_all, starts_below, starts_next}
 use Rattle.flat_program.proofs.flat_program.FlatProgram.add_bodies.Goals as goal
 
@@ -15,6 +16,7 @@ loop-func-preserved c = (
       c.loop-func.invariant.1 c.in_ok-add.ensures.grows c.in_ok-add.ensures.has,
   starts_next c.args.code.now c.loop-func.self c.add.new.self c.loop-func.func c.in-Some.function.now (sym c.in-Some.ensures)
       c.loop-func.invariant.2 c.in_ok-add.ensures.grows c.in_ok-add.ensures.keeps c.in_ok-add.ensures.begins,
+  keeps_both c.args.self.now.starts.items c.loop-func.self.starts.items c.add.new.self.starts.items c.loop-func.invariant.3 c.in_ok-add.ensures.keeps,
 )
 
 pub returns-in_default-clause-begins : goal.returns-in_default-clause-begins
