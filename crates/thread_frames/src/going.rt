@@ -7,7 +7,7 @@ ghost use Rattle.depth_first_list.specs.QuotaWords.{quota_words};
 ghost use Rattle.std.specs.Prelude.{slice_get};
 ghost use Rattle.language_limits.specs.declared.TheConstants.{GREATEST_COUNT};
 ghost use Rattle.node_table.specs.Table.{Function};
-ghost use Rattle.node_table.specs.Codes.{code_shown};
+ghost use Rattle.thread_code.specs.Codes.{code_shown};
 ghost use Rattle.thread_state.specs.Settings.{IsSettingOf};
 ghost use Rattle.block_arena.specs.Size.{words_taken};
 ghost use Rattle.thread_frames.specs.Views.{newest, id_of};
@@ -24,11 +24,12 @@ use block_arena::pieces_for;
 use dag_order::{Label, Placed, ThreadId};
 use depth_first_list::Quota;
 use language_limits::PIECE_WORDS;
-use node_table::{Code, NodeKind};
+use node_table::NodeKind;
+use thread_code::Code;
 use std::alloc::{AllocError, Global};
 use thread_output::Told;
 use thread_run::{Ready, ThreadRun};
-use thread_stack::{Branch, Frame, ListOf, frame_from};
+use thread_stack::{Branch, Frame, ListOf};
 use thread_state::ThreadState;
 
 impl Placed for Thread {
@@ -259,7 +260,7 @@ fn main_frames(alloc: Global, code: &Code, main: u32) -> Result<Vec<Frame>, Allo
 {
     let mut frames = Vec::with_capacity(alloc, 2)?;
     frames.push_reserved(Frame::AnswersMain);
-    match frame_from(code, ListOf::Body(main), 0) {
+    match code.frame_from(ListOf::Body(main), 0) {
         None => Ok(frames),
         Some(frame) => {
             frames.push_reserved(frame);

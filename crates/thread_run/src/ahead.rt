@@ -1,7 +1,7 @@
 //! Statements without an action, one after another.
 
 ghost use Rattle.std.specs.Prelude.{◌≡◌, ◌≤◌, ◌<◌, ◌+◌, ◌∷◌, false, IfOk, vec_len, vec_capacity};
-ghost use Rattle.node_table.specs.Codes.{code_shown};
+ghost use Rattle.thread_code.specs.Codes.{code_shown};
 ghost use Rattle.depth_first_list.specs.QuotaWords.{quota_words};
 ghost use Rattle.thread_run.specs.Stepping.{IsKnownAt, KeepsCounts};
 ghost use Rattle.thread_run.specs.AtHand.{HasRoom, on_top, IsAhead, IsHanded, LeavesLessAhead, LeavesNoMore};
@@ -9,9 +9,9 @@ ghost use Rattle.thread_run.specs.AtHand.{HasRoom, on_top, IsAhead, IsHanded, Le
 use crate::plain::{Plain, do_plainly};
 use crate::run::ThreadRun;
 use depth_first_list::Quota;
-use node_table::Code;
+use thread_code::Code;
 use std::alloc::AllocError;
-use thread_stack::{Frame, ListOf, numbers};
+use thread_stack::{Frame, ListOf};
 
 /// Where a thread stands that went on from a frame.
 #[derive(Clone, Copy)]
@@ -114,7 +114,7 @@ impl ThreadRun {
         ensures less { LeavesLessAhead (code_shown code.now) self.old (Frame.Statements list from) self.new result }
         ensures counts { KeepsCounts self.old.state self.new.state }
     {
-        let numbers = numbers(code, list);
+        let numbers = code.numbers(list);
         let mut next = from;
         'places: while next < numbers.len() {
             let number = numbers[next];

@@ -3,7 +3,7 @@
 ghost use Rattle.std.specs.Prelude.{◌≡◌, ◌+◌, ◌≤◌, ◌++◌, ◌∷◌, ℕ, List, false, Some, IfOk, slice_get, vec_len, vec_capacity};
 ghost use Rattle.node_table.specs.Table as tables;
 ghost use Rattle.node_table.specs.Shown.{node_shown, kind_shown};
-ghost use Rattle.node_table.specs.Codes.{code_shown};
+ghost use Rattle.thread_code.specs.Codes.{code_shown};
 ghost use Rattle.thread_stack.specs.Lists.{kind_at};
 ghost use Rattle.thread_stack.specs.Frames.{frames_shown};
 ghost use Rattle.thread_stack.specs.Measure.{left_to_do};
@@ -15,9 +15,10 @@ ghost use Rattle.thread_run.specs.Stepping.{frames_left};
 use crate::Ready;
 use crate::run::ThreadRun;
 use dag_order::FaultAt;
-use node_table::{Code, Node, NodeKind};
+use node_table::{Node, NodeKind};
+use thread_code::Code;
 use std::alloc::{AllocError, Global};
-use thread_stack::{Frame, ListOf, frame_from};
+use thread_stack::{Frame, ListOf};
 use thread_state::Stop;
 
 /// Whether a node is a call.
@@ -62,7 +63,7 @@ impl ThreadRun {
         self.frames.reserve(2)?;
         match self.state.call(alloc, callee.slots, &callee.params, args) {
             Ok(()) => {
-                let body = frame_from(code, ListOf::Body(*func), 0);
+                let body = code.frame_from(ListOf::Body(*func), 0);
                 self.enter(body, *func, number, caller);
                 Ok(None)
             }

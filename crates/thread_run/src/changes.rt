@@ -6,7 +6,7 @@ ghost use Rattle.node_table.specs.Names.{slot_names, IsSlot};
 ghost use Rattle.node_table.specs.Shown.{expr_shown};
 ghost use Rattle.node_table.specs.Table.{Table};
 ghost use Rattle.node_table.specs.Reading.{IsExpr};
-ghost use Rattle.node_table.specs.Codes.{code_shown};
+ghost use Rattle.thread_code.specs.Codes.{code_shown};
 ghost use Rattle.thread_points.specs.Passed.States.{Setting, with_number};
 ghost use Rattle.thread_points.specs.Passed.Values.{value};
 ghost use Rattle.thread_points.specs.Passed.Run.{set_integer, put_value};
@@ -25,10 +25,11 @@ use crate::done::Done;
 use crate::plain::Plain;
 use crate::simple::fault;
 use dag_order::FaultKind;
-use node_table::{Code, CodeExpr};
+use node_table::CodeExpr;
+use thread_code::Code;
 use number_operators::is_true;
 use std::alloc::{AllocError, Global};
-use thread_stack::{Frame, ListOf, frame_from};
+use thread_stack::{Frame, ListOf};
 use thread_state::{Stop, ThreadState};
 
 /// The slots of a `split`: its block, and the two parts.
@@ -213,7 +214,7 @@ fn cut(
 {
     match state.cut(alloc, parts.block, at, parts.left, parts.right) {
         Ok(()) => Ok(Done::Silent {
-            first: frame_from(code, ListOf::Inside(number), 0),
+            first: code.frame_from(ListOf::Inside(number), 0),
             next: Some(Frame::Rejoins(number)),
         }),
         Err(Stop::Fault(kind)) => Ok(fault(kind, line)),

@@ -1,7 +1,7 @@
 //! Calls: where they end, and the end of `main`.
 
 ghost use Rattle.std.specs.Prelude.{◌≡◌, ℕ, Ok, false};
-ghost use Rattle.node_table.specs.Codes.{code_shown};
+ghost use Rattle.thread_code.specs.Codes.{code_shown};
 ghost use Rattle.node_table.specs.Shown.{ret_shown};
 ghost use Rattle.thread_stack.specs.Lists.{kind_at};
 ghost use Rattle.thread_state.specs.Calls.{return_line};
@@ -12,7 +12,8 @@ ghost use Rattle.thread_run.specs.Stepping.{StepsRun, KeepsFunctions, RunsLess};
 use crate::Ready;
 use crate::run::ThreadRun;
 use dag_order::FaultAt;
-use node_table::{Code, CodeRet, NodeKind};
+use node_table::{CodeRet, NodeKind};
+use thread_code::Code;
 use thread_stack::Frame;
 
 /// The line of a `return`; 0 where there is none.

@@ -1,7 +1,7 @@
 //! Lists of statements and loops, one statement at a time.
 
 ghost use Rattle.std.specs.Prelude.{◌≡◌, ◌+◌, ◌≤◌, IfOk};
-ghost use Rattle.node_table.specs.Codes.{code_shown};
+ghost use Rattle.thread_code.specs.Codes.{code_shown};
 ghost use Rattle.depth_first_list.specs.QuotaWords.{quota_words};
 ghost use Rattle.thread_stack.specs.Measure.{left_to_do, node_cost};
 ghost use Rattle.thread_run.specs.Functions.{functions_of};
@@ -11,9 +11,9 @@ use crate::calls::calls;
 use crate::run::ThreadRun;
 use crate::{Ready, statement};
 use depth_first_list::Quota;
-use node_table::Code;
+use thread_code::Code;
 use std::alloc::{AllocError, Global};
-use thread_stack::{Frame, ListOf, numbers};
+use thread_stack::{Frame, ListOf};
 
 impl ThreadRun {
     ghost use Rattle.thread_run.specs.Functions.{frames_of};
@@ -39,7 +39,7 @@ impl ThreadRun {
         if self.state.is_faulted() {
             return Ok(None);
         }
-        let numbers = numbers(code, list);
+        let numbers = code.numbers(list);
         if next >= numbers.len() {
             return Ok(None);
         }

@@ -1,11 +1,11 @@
 ghost use Rattle.std.specs.Prelude.{◌≡◌, ◌<◌, None, Ok, IfOk};
 ghost use Rattle.depth_first_list.specs.QuotaWords.{quota_words};
-ghost use Rattle.node_table.specs.Codes.{code_shown};
+ghost use Rattle.thread_code.specs.Codes.{code_shown};
 ghost use Rattle.thread_state.specs.States.{words_held};
 
 use crate::Ready;
 use depth_first_list::Quota;
-use node_table::Code;
+use thread_code::Code;
 use std::alloc::{AllocError, Global};
 use thread_output::Told;
 use thread_stack::Frame;

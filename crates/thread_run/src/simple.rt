@@ -6,7 +6,7 @@ ghost use Rattle.node_table.specs.Names.{slot_names};
 ghost use Rattle.node_table.specs.Shown.{expr_shown};
 ghost use Rattle.node_table.specs.Table.{Table};
 ghost use Rattle.node_table.specs.Reading.{IsExpr};
-ghost use Rattle.node_table.specs.Codes.{code_shown};
+ghost use Rattle.thread_code.specs.Codes.{code_shown};
 ghost use Rattle.thread_points.specs.Passed.States.{Setting, with_number};
 ghost use Rattle.thread_points.specs.Passed.Values.{value};
 ghost use Rattle.thread_points.specs.Passed.Run.{print_number};
@@ -22,9 +22,10 @@ use crate::done::Done;
 use crate::plain::Plain;
 use crate::ready::Ready;
 use dag_order::{FaultAt, FaultKind};
-use node_table::{Code, CodeExpr};
+use node_table::CodeExpr;
+use thread_code::Code;
 use number_operators::is_true;
-use thread_stack::{ListOf, frame_from};
+use thread_stack::ListOf;
 use thread_state::ThreadState;
 
 /// A fault at a line.
@@ -93,7 +94,7 @@ fn do_list(code: &Code, list: ListOf) -> Plain
     ensures cost { (n line : ℕ) → done_cost (code_shown code.now) (done_of n line result)
         ≤ list_cost (node_cost (code_shown code.now)) (numbers_of (code_shown code.now) list) }
 {
-    match frame_from(code, list, 0) {
+    match code.frame_from(list, 0) {
         Some(_) => Plain::Enters(list),
         None => Plain::Nothing,
     }

@@ -5,7 +5,7 @@ ghost use Rattle.par_tree.specs.Tree.{Func, Stmt};
 ghost use Rattle.node_table.specs.Names.{slot_names};
 ghost use Rattle.node_table.specs.Shown.{node_shown};
 ghost use Rattle.node_table.specs.Table as tables;
-ghost use Rattle.node_table.specs.Codes.{code_shown};
+ghost use Rattle.thread_code.specs.Codes.{code_shown};
 ghost use Rattle.depth_first_list.specs.QuotaWords.{quota_words};
 ghost use Rattle.thread_points.specs.Passed.States.{Setting};
 ghost use Rattle.thread_points.specs.Passed.Middle.{step_statement};
@@ -22,7 +22,8 @@ use crate::done::Done;
 use crate::plain::told;
 use crate::simple::{choose, print};
 use depth_first_list::Quota;
-use node_table::{Code, Node, NodeKind};
+use node_table::{Node, NodeKind};
+use thread_code::Code;
 use std::alloc::{AllocError, Global};
 use thread_state::ThreadState;
 

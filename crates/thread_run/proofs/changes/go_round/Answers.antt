@@ -3,7 +3,7 @@ use Rattle.std.specs.Prelude.{map}
 use Rattle.par_tree.specs.Tree.{step, while_stmt, done, Body}
 use Rattle.thread_points.specs.Passed.Middle.{middle, before_all, step_turn}
 use Rattle.node_table.specs.Names.{slot_names}
-use Rattle.node_table.specs.Codes.{code_shown}
+use Rattle.thread_code.specs.Codes.{code_shown}
 use Rattle.thread_state.specs.States.{IsState}
 use Rattle.thread_run.specs.declared.done.Done.TheVariants.{Acts}
 use Rattle.thread_run.specs.declared.ready.Ready.TheVariants.{Fault}

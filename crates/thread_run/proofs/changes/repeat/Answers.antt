@@ -5,7 +5,7 @@ use Rattle.par_tree.specs.Tree.{step, while_stmt, done, Body}
 use Rattle.thread_points.specs.Passed.Values.{value}
 use Rattle.thread_points.specs.Passed.Middle.{middle, before_all, step_with_number, step_while, step_round, step_turn}
 use Rattle.node_table.specs.Names.{slot_names}
-use Rattle.node_table.specs.Codes.{code_shown}
+use Rattle.thread_code.specs.Codes.{code_shown}
 use Rattle.thread_run.specs.declared.done.Done.TheVariants.{Silent, Acts}
 use Rattle.thread_run.specs.Plains.{done_of}
 use Rattle.thread_run.specs.declared.ready.Ready.TheVariants.{Fault}

@@ -1,5 +1,5 @@
 use Rattle.std.proofs.Common.{◌≤◌, ◌<◌, ◌∷◌, ℕ, List, length, rules, sym, subst, arith}
-use Rattle.node_table.specs.Codes.{code_shown}
+use Rattle.thread_code.specs.Codes.{code_shown}
 use Rattle.thread_stack.specs.declared.frame.Frame.TheVariants.{Again}
 use Rattle.thread_stack.specs.declared.list_of.ListOf.TheVariants.{Round}
 use Rattle.thread_stack.proofs.Lists.{list_frame, no_frame}

@@ -5,7 +5,7 @@ use Rattle.node_table.specs.Names.{slot_names}
 use Rattle.node_table.specs.Table.{Table, Kind, let_node, assign_node, put_node, if_node, while_node}
 use Rattle.node_table.specs.Programs.{function_names}
 use Rattle.node_table.specs.Shown.{kind_shown, node_shown, expr_shown}
-use Rattle.node_table.specs.Codes.{code_shown}
+use Rattle.thread_code.specs.Codes.{code_shown}
 use Rattle.thread_stack.specs.Lists.{numbers_of, round_of}
 use Rattle.thread_stack.specs.Measure.{list_cost, node_cost}
 use Rattle.thread_stack.specs.declared.list_of.ListOf.TheVariants.{Then, Other}

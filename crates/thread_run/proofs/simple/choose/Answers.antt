@@ -4,7 +4,7 @@ use Rattle.std.specs.Prelude.{map}
 use Rattle.thread_points.specs.Passed.Values.{value}
 use Rattle.thread_points.specs.Passed.Middle.{step_with_number, step_if, step_branch}
 use Rattle.node_table.specs.Names.{slot_names}
-use Rattle.node_table.specs.Codes.{code_shown}
+use Rattle.thread_code.specs.Codes.{code_shown}
 use Rattle.thread_run.specs.Plains.{done_of}
 use Rattle.thread_run.specs.declared.done.Done.TheVariants.{Acts}
 use Rattle.thread_run.specs.declared.ready.Ready.TheVariants.{Fault}

@@ -1,6 +1,6 @@
 use Rattle.std.proofs.Common.{◌∷◌, refl, subst, arith}
 use Rattle.thread_points.specs.Passed.Middle.{before_all}
-use Rattle.node_table.specs.Codes.{code_shown}
+use Rattle.thread_code.specs.Codes.{code_shown}
 use Rattle.thread_stack.specs.declared.frame.Frame.{Frame}
 use Rattle.thread_stack.specs.Frames.{AreFrames}
 use Rattle.thread_run.proofs.simple.do_list.Goals as goal

@@ -1,6 +1,6 @@
 use Rattle.std.proofs.Common.{◌∷◌, sym, ap}
 use Rattle.thread_points.specs.Passed.Middle.{middle, before_all, step_branch}
-use Rattle.node_table.specs.Codes.{code_shown}
+use Rattle.thread_code.specs.Codes.{code_shown}
 use Rattle.thread_run.specs.Plains.{done_of}
 use Rattle.thread_run.proofs.Coming.{at_point}
 use Rattle.thread_run.proofs.simple.take_arm.Goals as goal

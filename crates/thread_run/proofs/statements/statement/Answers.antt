@@ -5,7 +5,7 @@ use Rattle.node_table.specs.Names.{slot_names}
 use Rattle.node_table.specs.Table.{Table, Kind, call_node, let_node, assign_node, put_node, alloc_node, free_node, if_node, while_node, print_node, both_node, split_node}
 use Rattle.node_table.specs.Programs.{function_names}
 use Rattle.node_table.specs.Shown.{kind_shown, node_shown, expr_shown, target_shown, args_shown}
-use Rattle.node_table.specs.Codes.{code_shown}
+use Rattle.thread_code.specs.Codes.{code_shown}
 use Rattle.thread_run.specs.Called.{IsNoCall}
 use Rattle.thread_stack.specs.Lists.{numbers_of, round_of}
 use Rattle.thread_stack.specs.Measure.{list_cost, node_cost}

@@ -1,7 +1,7 @@
 use Rattle.std.proofs.Common.{◌≡◌, ◌+◌, [], ◌∷◌, ◌∙◌, ◌≤◌, List, ℕ, refl, sym, ap, subst, arith}
 use Rattle.std.specs.Prelude.{reverse}
 use Rattle.depth_first_list.specs.QuotaWords.{quota_words}
-use Rattle.node_table.specs.Codes.{code_shown}
+use Rattle.thread_code.specs.Codes.{code_shown}
 use Rattle.thread_stack.specs.Measure.{left_to_do}
 use Rattle.thread_stack.specs.declared.frame.Frame.{Frame}
 use Rattle.thread_run.specs.declared.run.ThreadRun.{ThreadRun}

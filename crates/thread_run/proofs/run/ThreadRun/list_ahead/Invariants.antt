@@ -1,7 +1,7 @@
 use Rattle.std.proofs.Common.{◌≡◌, ◌+◌, ◌-◌, ◌≤◌, ◌∷◌, length}
 use Rattle.std.specs.Prelude.{vec_len, vec_capacity}
 use Rattle.depth_first_list.specs.QuotaWords.{quota_words}
-use Rattle.node_table.specs.Codes.{code_shown}
+use Rattle.thread_code.specs.Codes.{code_shown}
 use Rattle.thread_stack.specs.Lists.{numbers_of}
 use Rattle.thread_stack.specs.Measure.{left_to_do}
 use Rattle.thread_stack.specs.declared.frame.Frame.TheVariants.{Statements}
