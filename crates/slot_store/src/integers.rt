@@ -12,6 +12,9 @@ use crate::slot::Slot;
 use crate::slots::Slots;
 use std::alloc::{AllocError, Global};
 
+/// For how many slots more a new row has room, so that [`Slots::lengthen`] needs no memory for the few that most code asks for.
+const SPARE: usize = 8;
+
 impl Slots {
     /// A row of `count` slots with nothing in them.
     ///
@@ -25,7 +28,7 @@ impl Slots {
         ensures store { IfOk result (λ slots. (names : List Name) → AreDistinct names → length names ≡ count
             → ShowsStore names (slots_shown slots) nothing) }
     {
-        let mut slots = Vec::with_capacity(alloc, count as usize)?;
+        let mut slots = Vec::with_capacity(alloc, count as usize + SPARE)?;
         for _ in 0..count {
             slots.push_reserved(Slot {
                 integer: 0,
