@@ -14,10 +14,12 @@ pub struct ThreadState {
     pub(crate) done: u32,
     pub(crate) forks: u32,
     pub(crate) faulted: bool,
-    pub(crate) slots: Slots,
+    /// The row of the function that runs.
+    pub slots: Slots,
     pub(crate) callers: Vec<Slots>,
     pub(crate) calls: u32,
-    pub(crate) turns: u32,
+    /// How many turns of loops and calls are left to it.
+    pub turns: u32,
     pub ghost counted: { forks ≤ done },
     pub ghost waiting: { vec_len callers < calls },
     pub ghost few: { calls ≤ MOST_CALLS },
