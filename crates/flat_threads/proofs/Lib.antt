@@ -1,3 +1,4 @@
+pub mod Fewer
 pub mod Costs
 pub mod Turns
 pub mod Rows

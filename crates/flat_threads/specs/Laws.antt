@@ -38,6 +38,10 @@ WaysLeaveLess =
 abbrev pub WaysStayWithMoreTurns : Type 0
 WaysStayWithMoreTurns = (t : Table) (more : ℕ) (s u : Standing) → Steps t s u → Steps t (with_turns more s) (with_turns more u)
 
+-- No turn comes back along a way.
+abbrev pub WaysTakeTurns : Type 0
+WaysTakeTurns = (t : Table) (s u : Standing) → Steps t s u → u.turns ≤ s.turns
+
 -- A way neither lengthens the row nor changes how many words its blocks have: an assignment leaves the blocks, a write their lengths.
 abbrev pub RowsStay : Type 0
 RowsStay = (t : Table) (s u : Standing) → Steps t s u → HasSingleBlocks s.row → RowStays s.row u.row

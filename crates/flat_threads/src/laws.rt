@@ -1,4 +1,4 @@
-ghost use Rattle.flat_threads.specs.Laws.{StepsLeaveLess, WaysLeaveLess, WaysStayWithMoreTurns, RowsStay, ThreadsComeAlong};
+ghost use Rattle.flat_threads.specs.Laws.{StepsLeaveLess, WaysLeaveLess, WaysStayWithMoreTurns, WaysTakeTurns, RowsStay, ThreadsComeAlong};
 ghost use Rattle.flat_threads.specs.Laws.{ThreadsAreInState, ThreadsAreInLaterState};
 ghost use Rattle.flat_threads.specs.Laws.{WordsStay, MarksSayNothing, OtherFramesStay, ThreadsGoTheirWays};
 
@@ -15,6 +15,11 @@ pub fn ways_leave_less()
 /// With more turns a thread goes the same way.
 pub fn ways_stay_with_more_turns()
     ensures { WaysStayWithMoreTurns }
+{}
+
+/// No turn comes back along a way.
+pub fn ways_take_turns()
+    ensures { WaysTakeTurns }
 {}
 
 /// A way leaves the row as long as it was, with as many words.

@@ -6,7 +6,7 @@
 //!
 //! It builds on the node table (`node_table`), on frames and what is left to do of them (`thread_stack`), on rows of slots (`slot_store`),
 //! on flat code as a definition (`flat_statements`), on the depth-first run and the points of its threads (`depth_first_run`,
-//! `thread_points`), and on the state and the output of a thread (`thread_state`, `thread_output`). `thread_run` may use it.
+//! `thread_points`), and on the state and the output of a thread (`thread_state`, `thread_output`). `thread_run` uses it.
 //!
 //! Its theorem is [`threads_go_their_ways`]: a thread that is at a point of the depth-first run, and goes a way inside its function, is at a
 //! later point, with the same open children, the frames, the row and the turns of the end of the way, and the lines and the fault that it had.
@@ -17,8 +17,8 @@
 //!
 //! By [`ways_leave_less`] each step of a way leaves less to do, so a thread that goes from way to way gets to its next action
 //! ([`steps_leave_less`] is the same of one step). By [`ways_stay_with_more_turns`] a thread may give a run some of its turns alone: with all
-//! of them it goes the same way, and those that it kept are left besides. By [`rows_stay`] the row has as many slots after a way as before,
-//! as many words in its blocks, and no slot with two blocks.
+//! of them it goes the same way, and those that it kept are left besides; by [`ways_take_turns`] none comes back. By [`rows_stay`] the row
+//! has as many slots after a way as before, as many words in its blocks, and no slot with two blocks.
 //!
 //! # Why
 //!
@@ -32,5 +32,5 @@ mod laws;
 pub use laws::{
     marks_say_nothing, other_frames_stay, rows_stay, steps_leave_less, threads_are_in_later_state,
     threads_are_in_state, threads_come_along, threads_go_their_ways, ways_leave_less,
-    ways_stay_with_more_turns, words_stay,
+    ways_stay_with_more_turns, ways_take_turns, words_stay,
 };
