@@ -9,11 +9,12 @@ ghost use Rattle.thread_stack.specs.Measure.{frames_cost, list_cost, node_cost};
 ghost use Rattle.flat_program.specs.Programs.{BeginsAt};
 
 use crate::code::Code;
+use flat_code::Instruction;
 use flat_program::FlatList;
 use thread_stack::{Frame, ListOf, frame_from, numbers};
 
 impl Code {
-    ghost use Rattle.thread_code.specs.Codes.{code_shown};
+    ghost use Rattle.node_table.specs.Codes.{code_shown};
 
     /// The numbers of the statements of a list, in their order; none where the code has no such list.
     #[inline(always)]
@@ -38,13 +39,26 @@ impl Code {
         frame_from(&self.table, list, next)
     }
 
-    /// Where the flat code of a frame begins, if it has any: a list of flat code, and a place of it.
+    /// Where the flat code of a frame begins, if it has any: a list of flat code, and a place of it. None also where flat code ends at once,
+    /// since the thread does the statement by itself.
     #[inline(always)]
     pub fn start(&self, frame: Frame) -> Option<(&FlatList, usize)>
         ensures { IfSome result (λ start. BeginsAt (code_shown self.now) start.0.now start.1) }
     {
         let start = self.flat.start(&self.table, frame)?;
         let list = self.flat.list(start.list)?;
+        if leaves_at(list, start.place) {
+            return None;
+        }
         Some((list, start.place))
+    }
+}
+
+/// Whether flat code ends at a place.
+#[inline(always)]
+fn leaves_at(list: &FlatList, place: usize) -> bool {
+    match list.places.get(place) {
+        Some(here) => matches!(here.what, Instruction::Leave),
+        None => true,
     }
 }

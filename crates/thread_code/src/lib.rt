@@ -14,3 +14,4 @@ mod frames;
 mod reading;
 
 pub use code::Code;
+pub use flat_program::FlatList;

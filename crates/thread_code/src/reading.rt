@@ -5,9 +5,8 @@ use std::alloc::{AllocError, Global};
 
 impl Code {
     ghost use Rattle.std.specs.Prelude.{◌≡◌, ◌==◌, IfOk, length, slice_get, option_copied};
-    ghost use Rattle.node_table.specs.Codes as tables;
     ghost use Rattle.node_table.specs.Programs.{IsAcceptedTable};
-    ghost use Rattle.thread_code.specs.Codes.{nodes_of, funcs_of, main_of, code_shown};
+    ghost use Rattle.node_table.specs.Codes.{nodes_of, funcs_of, main_of, code_shown};
 
     /// The code of a node table.
     ///
@@ -15,7 +14,7 @@ impl Code {
     ///
     /// There is not enough memory.
     pub fn of(alloc: Global, table: NodeTable) -> Result<Code, AllocError>
-        ensures { IfOk result (λ c. code_shown c ≡ tables.code_shown table) }
+        ensures { IfOk result (λ c. code_shown c ≡ code_shown table) }
     {
         let flat = FlatProgram::of(alloc, &table)?;
         Ok(Code { table, flat })
