@@ -18,8 +18,7 @@
 //! start (`HasBodyStarts`), if some row that may be has room for its intermediate numbers and its places have numbers. A frame with a start
 //! is found by [`FlatProgram::start`]; there are entries for the starts of each node of the table (`sized`).
 //!
-//! Not there yet: the same of the branches of a `par` and of the body of a `split`, whose slots are those of the function in which they are;
-//! and the threads that run by it.
+//! Not there yet: the same of the branches of a `par` and of the body of a `split`, whose slots are those of the function in which they are.
 //!
 //! # Why
 //!

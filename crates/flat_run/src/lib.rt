@@ -10,8 +10,6 @@
 //! where it stops. So by `machine_ends_with_the_thread` there, a thread that the machine represented does not go on by itself either, and the
 //! mark of the place is its frames.
 //!
-//! Not there yet: the threads that run by it.
-//!
 //! # Why
 //!
 //! - **One instruction is one step of the machine**, so the loop has no case of its own, and what holds of the machine holds of it.

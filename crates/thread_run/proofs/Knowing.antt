@@ -26,7 +26,7 @@ use Rattle.thread_state.specs.Passed.Rows.{Entry, blocks_at, items_at, first_of,
 use Rattle.thread_state.specs.Passed.Agreement.{blocks_under, ShowsStore}
 use Rattle.thread_state.proofs.Passed.Agreement.{entry_is, row_length}
 use Rattle.thread_state.specs.Conditions.{CanRejoin}
-use Rattle.thread_state.specs.States.{own_row, words_held}
+use Rattle.thread_state.specs.States.{own_row}
 use Rattle.thread_state.proofs.Steps.{own_store}
 use Rattle.thread_run.specs.Stands.{InState}
 use Rattle.thread_run.specs.Rejoining.{CanRejoinAt}

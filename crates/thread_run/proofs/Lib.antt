@@ -18,6 +18,5 @@ pub mod Meetings
 pub mod CanEnds
 pub mod Outcomes
 pub mod OnTheWay
-pub mod AtHand
-pub mod PlainSteps
+pub mod Ways
 pub mod Passed

@@ -9,6 +9,5 @@ pub mod Going
 pub mod Functions
 pub mod Stepping
 pub mod Calling
-pub mod Plains
-pub mod AtHand
+pub mod Ways
 pub mod Passed

@@ -3,7 +3,7 @@
 ghost use Rattle.std.specs.Prelude.{◌≡◌, ◌+◌, ◌≤◌, ◌++◌, ◌∷◌, ℕ, List, false, Some, IfOk, slice_get, vec_len, vec_capacity};
 ghost use Rattle.node_table.specs.Table as tables;
 ghost use Rattle.node_table.specs.Shown.{node_shown, kind_shown};
-ghost use Rattle.thread_code.specs.Codes.{code_shown};
+ghost use Rattle.node_table.specs.Codes.{code_shown};
 ghost use Rattle.thread_stack.specs.Lists.{kind_at};
 ghost use Rattle.thread_stack.specs.Frames.{frames_shown};
 ghost use Rattle.thread_stack.specs.Measure.{left_to_do};
@@ -16,8 +16,8 @@ use crate::Ready;
 use crate::run::ThreadRun;
 use dag_order::FaultAt;
 use node_table::{Node, NodeKind};
-use thread_code::Code;
 use std::alloc::{AllocError, Global};
+use thread_code::Code;
 use thread_stack::{Frame, ListOf};
 use thread_state::Stop;
 

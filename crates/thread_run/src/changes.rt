@@ -1,34 +1,31 @@
 //! Statements that change the slots or the turns of a thread.
 
 ghost use Rattle.std.specs.Prelude.{◌≡◌, ◌≤◌, ◌<◌, ◌+◌, ◌∷◌, [], ℕ, List, length, false, Result};
-ghost use Rattle.par_tree.specs.Tree.{Program, Func, Expr, Name, Body, step, while_stmt, done};
+ghost use Rattle.par_tree.specs.Tree.{Func, Expr, Name, Body, step, while_stmt, done};
 ghost use Rattle.node_table.specs.Names.{slot_names, IsSlot};
 ghost use Rattle.node_table.specs.Shown.{expr_shown};
 ghost use Rattle.node_table.specs.Table.{Table};
 ghost use Rattle.node_table.specs.Reading.{IsExpr};
-ghost use Rattle.thread_code.specs.Codes.{code_shown};
+ghost use Rattle.node_table.specs.Codes.{code_shown};
 ghost use Rattle.thread_points.specs.Passed.States.{Setting, with_number};
 ghost use Rattle.thread_points.specs.Passed.Values.{value};
 ghost use Rattle.thread_points.specs.Passed.Run.{set_integer, put_value};
-ghost use Rattle.thread_points.specs.Passed.Middle.{Frame as RunFrame, middle, step_with_number, step_while, step_turn, step_split, before_all};
-ghost use Rattle.thread_stack.specs.Frames.{AreFrames, AreStatements, IsSplitNode, names_now};
+ghost use Rattle.thread_points.specs.Passed.Middle.{middle, step_with_number, step_while, step_turn, step_split, before_all};
+ghost use Rattle.thread_stack.specs.Frames.{AreStatements, IsSplitNode};
 ghost use Rattle.thread_stack.specs.Lists.{numbers_of};
 ghost use Rattle.thread_stack.specs.Measure.{list_cost, node_cost};
 ghost use Rattle.thread_state.specs.Conditions.{CanCut};
 ghost use Rattle.thread_state.specs.States.{own_row};
 ghost use Rattle.thread_run.specs.Costs.{done_cost, CostsAtMost, CostsTurns};
-ghost use Rattle.thread_run.specs.Dones.{Leads, LeadsOrWants};
-ghost use Rattle.thread_run.specs.Plains.{done_of, settled_plain, IsSilent, IsLeft};
-ghost use Rattle.thread_run.specs.Stepping.{frames_with};
+ghost use Rattle.thread_run.specs.Dones.{Leads, LeadsOrWants, settled_done};
 
 use crate::done::Done;
-use crate::plain::Plain;
 use crate::simple::fault;
 use dag_order::FaultKind;
 use node_table::CodeExpr;
-use thread_code::Code;
 use number_operators::is_true;
 use std::alloc::{AllocError, Global};
+use thread_code::Code;
 use thread_stack::{Frame, ListOf};
 use thread_state::{Stop, ThreadState};
 
@@ -40,118 +37,100 @@ pub(crate) struct Parts {
     pub(crate) right: u16,
 }
 
-/// A statement without frames is done, or is a fault.
-#[inline(always)]
-fn settle(settled: Result<(), FaultKind>) -> Plain
-    ensures { result ≡ settled_plain settled }
+/// A statement without frames is done, or is a fault at a line.
+fn settle(settled: Result<(), FaultKind>, line: u32) -> Done
+    ensures { result ≡ settled_done line settled }
 {
     match settled {
-        Ok(()) => Plain::Nothing,
-        Err(kind) => Plain::Faults(kind),
+        Ok(()) => Done::Silent {
+            first: None,
+            next: None,
+        },
+        Err(kind) => fault(kind, line),
     }
 }
 
 /// `let name = value;` and `name = value;`
-#[inline(always)]
-pub(crate) fn set(state: &mut ThreadState, slot: u16, expr: &CodeExpr) -> Plain
+pub(crate) fn set(state: &mut ThreadState, line: u32, slot: u16, expr: &CodeExpr) -> Done
     requires going { state.old.faulted ≡ false }
     requires within { slot < length (own_row state.old) }
-    ensures meaning { (t : Table) (k n line : ℕ) (c : Setting) (g : Func) (x : Name) (e : Expr) → IsSlot (slot_names g) slot x
+    ensures meaning { (t : Table) (k : ℕ) (c : Setting) (g : Func) (x : Name) (e : Expr) → IsSlot (slot_names g) slot x
         → IsExpr (slot_names g) (expr_shown expr.now) e
-        → Leads t k c g state.old (done_of n line result) state.new
-        (λ fs s. middle fs (with_number line (value s.store e) (set_integer x) s)) }
-    ensures cost { (t : Table) (n line : ℕ) → done_cost t (done_of n line result) ≡ 0 }
+        → Leads t k c g state.old result state.new (λ fs s. middle fs (with_number line (value s.store e) (set_integer x) s)) }
+    ensures cost { (t : Table) → done_cost t result ≡ 0 }
     ensures turns { state.new.turns ≡ state.old.turns }
-    ensures left { IsLeft result → state.new ≡ state.old }
 {
     let result = state.set(slot, expr);
-    settle(result)
+    settle(result, line)
 }
 
 /// `block[index] = value;`
-#[inline(always)]
-pub(crate) fn put(state: &mut ThreadState, slot: u16, index: &CodeExpr, expr: &CodeExpr) -> Plain
+pub(crate) fn put(
+    state: &mut ThreadState,
+    line: u32,
+    slot: u16,
+    index: &CodeExpr,
+    expr: &CodeExpr,
+) -> Done
     requires going { state.old.faulted ≡ false }
     requires within { slot < length (own_row state.old) }
-    ensures meaning { (t : Table) (k n line : ℕ) (c : Setting) (g : Func) (b : Name) (i e : Expr) → IsSlot (slot_names g) slot b
+    ensures meaning { (t : Table) (k : ℕ) (c : Setting) (g : Func) (b : Name) (i e : Expr) → IsSlot (slot_names g) slot b
         → IsExpr (slot_names g) (expr_shown index.now) i → IsExpr (slot_names g) (expr_shown expr.now) e
-        → Leads t k c g state.old (done_of n line result) state.new
-        (λ fs s. middle fs (with_number line (value s.store i) (put_value line b e) s)) }
-    ensures cost { (t : Table) (n line : ℕ) → done_cost t (done_of n line result) ≡ 0 }
+        → Leads t k c g state.old result state.new (λ fs s. middle fs (with_number line (value s.store i) (put_value line b e) s)) }
+    ensures cost { (t : Table) → done_cost t result ≡ 0 }
     ensures turns { state.new.turns ≡ state.old.turns }
-    ensures left { IsLeft result → state.new ≡ state.old }
 {
     let result = state.put(slot, index, expr);
-    settle(result)
+    settle(result, line)
 }
 
 /// `while cond { body }`
-#[inline(always)]
 pub(crate) fn repeat(
     state: &mut ThreadState,
     code: &Code,
     number: u32,
+    line: u32,
     cond: &CodeExpr,
-    body: &[u32],
-) -> Plain
-    requires going { state.old.faulted ≡ false }
-    requires round { numbers_of (code_shown code.now) (ListOf.Round number) ≡ body.now }
-    ensures meaning { (k line : ℕ) (c : Setting) (g : Func) (e : Expr) (a : Body) → IsExpr (slot_names g) (expr_shown cond.now) e
+) -> Done
+    requires { state.old.faulted ≡ false }
+    ensures meaning { (k : ℕ) (c : Setting) (g : Func) (e : Expr) (a : Body) → IsExpr (slot_names g) (expr_shown cond.now) e
         → AreStatements c.program (code_shown code.now) (slot_names g) (numbers_of (code_shown code.now) (ListOf.Round number)) a
         → AreStatements c.program (code_shown code.now) (slot_names g) (number ∷ []) (step line (while_stmt e a) done)
-        → Leads (code_shown code.now) k c g state.old (done_of number line result) state.new
+        → Leads (code_shown code.now) k c g state.old result state.new
         (λ fs s. step_with_number line (value s.store e) (step_while line e a) fs s) }
-    ensures cost { (line : ℕ) → CostsTurns (code_shown code.now) number state.old.turns state.new.turns (done_of number line result) }
-    ensures left { IsLeft result → state.new ≡ state.old }
+    ensures cost { CostsTurns (code_shown code.now) number state.old.turns state.new.turns result }
 {
     match state.evaluate(cond) {
         Ok(value) => {
             if is_true(value) {
-                go_round(state, code, number, body)
+                go_round(state, code, number, line)
             } else {
-                Plain::Nothing
+                Done::Silent {
+                    first: None,
+                    next: None,
+                }
             }
         }
-        Err(kind) => Plain::Faults(kind),
+        Err(kind) => fault(kind, line),
     }
 }
 
 /// A round of a loop, which comes again behind its body.
-#[inline(always)]
-fn go_round(state: &mut ThreadState, code: &Code, number: u32, body: &[u32]) -> Plain
-    requires going { state.old.faulted ≡ false }
-    requires round { numbers_of (code_shown code.now) (ListOf.Round number) ≡ body.now }
-    ensures meaning { (k line : ℕ) (c : Setting) (g : Func) (e : Expr) (a : Body)
+fn go_round(state: &mut ThreadState, code: &Code, number: u32, line: u32) -> Done
+    requires { state.old.faulted ≡ false }
+    ensures meaning { (k : ℕ) (c : Setting) (g : Func) (e : Expr) (a : Body)
         → AreStatements c.program (code_shown code.now) (slot_names g) (numbers_of (code_shown code.now) (ListOf.Round number)) a
         → AreStatements c.program (code_shown code.now) (slot_names g) (number ∷ []) (step line (while_stmt e a) done)
-        → Leads (code_shown code.now) k c g state.old (done_of number line result) state.new
+        → Leads (code_shown code.now) k c g state.old result state.new
         (λ fs s. step_turn s.turns line (before_all a (before_all (step line (while_stmt e a) done) fs)) fs s) }
-    ensures cost { (line : ℕ) → CostsTurns (code_shown code.now) number state.old.turns state.new.turns (done_of number line result) }
-    ensures left { IsLeft result → state.new ≡ state.old }
+    ensures cost { CostsTurns (code_shown code.now) number state.old.turns state.new.turns result }
 {
     match state.turn() {
-        Ok(()) => round(code, number, body),
-        Err(kind) => Plain::Faults(kind),
-    }
-}
-
-/// The body of a loop and the loop again, or the loop alone where the body is empty.
-#[inline(always)]
-fn round(code: &Code, number: u32, body: &[u32]) -> Plain
-    requires { numbers_of (code_shown code.now) (ListOf.Round number) ≡ body.now }
-    ensures frames { (line : ℕ) (p : Program) (gs : List Func) (a : Body) (xs : List Frame) (fs : List RunFrame)
-        → AreStatements p (code_shown code.now) (names_now gs) (numbers_of (code_shown code.now) (ListOf.Round number)) a
-        → AreFrames p (code_shown code.now) gs (Frame.Again number ∷ xs) fs
-        → AreFrames p (code_shown code.now) gs (frames_with (done_of number line result) xs) (before_all a fs) }
-    ensures silent { IsSilent result }
-    ensures cost { (line : ℕ) → done_cost (code_shown code.now) (done_of number line result)
-        ≤ list_cost (node_cost (code_shown code.now)) (numbers_of (code_shown code.now) (ListOf.Round number))
-        + (1 + node_cost (code_shown code.now) number) }
-{
-    if body.is_empty() {
-        Plain::Again
-    } else {
-        Plain::Round
+        Ok(()) => Done::Silent {
+            first: code.frame_from(ListOf::Round(number), 0),
+            next: Some(Frame::Again(number)),
+        },
+        Err(kind) => fault(kind, line),
     }
 }
 

@@ -1,7 +1,7 @@
 //! Calls: where they end, and the end of `main`.
 
 ghost use Rattle.std.specs.Prelude.{◌≡◌, ℕ, Ok, false};
-ghost use Rattle.thread_code.specs.Codes.{code_shown};
+ghost use Rattle.node_table.specs.Codes.{code_shown};
 ghost use Rattle.node_table.specs.Shown.{ret_shown};
 ghost use Rattle.thread_stack.specs.Lists.{kind_at};
 ghost use Rattle.thread_state.specs.Calls.{return_line};

@@ -3,7 +3,7 @@
 ghost use Rattle.std.specs.Prelude.{◌≡◌, ℕ, false, IfOk};
 ghost use Rattle.thread_state.specs.Passed.Rows.{HasNone};
 ghost use Rattle.thread_state.specs.States.{own_row};
-ghost use Rattle.thread_code.specs.Codes.{code_shown};
+ghost use Rattle.node_table.specs.Codes.{code_shown};
 ghost use Rattle.thread_stack.specs.Lists.{kind_at};
 ghost use Rattle.thread_run.specs.Rejoining.{CanRejoinAt};
 ghost use Rattle.node_table.specs.Table.{Table};
@@ -13,8 +13,8 @@ use crate::ready::{Forking, Ready};
 use block_arena::{Shell, pieces_for};
 use depth_first_list::Tree;
 use node_table::NodeKind;
-use thread_code::Code;
 use std::alloc::{AllocError, Global};
+use thread_code::Code;
 use thread_stack::{Branch, Frame};
 use thread_state::ThreadState;
 

@@ -8,12 +8,13 @@
 //! ([`statement`], [`dummies`], [`allocates`], [`rejoins`]). Calls are begun and ended by the run itself, since it has the frames of the
 //! caller at hand, and a Join is a frame of its own.
 //!
-//! Plain statements, which do no action, call nothing and print nothing, go one after another in one loop, which holds the next frame in a
-//! variable. It hands back the frame of any other statement, and of one that faults: a single step does that.
+//! Plain statements, which do no action, call nothing and print nothing, are done by the flat code of the program (`thread_code`), all at once:
+//! where a statement has flat code, the run goes along it to where that stops, and its frames are then the mark of that place. The statement
+//! there, and one that faults or has no flat code, is done by a single step.
 //!
-//! It stands on the state of a thread (`thread_state`), on its frames (`thread_stack`), on the points of threads in the one depth-first run
-//! (`thread_points`) and on what a thread of an accepted program holds there (`ownership_laws`), which says that each block is there
-//! that a statement needs, and that none is where it puts one.
+//! It stands on the state of a thread (`thread_state`), on its frames (`thread_stack`), on what holds along a way of flat code
+//! (`flat_threads`), on the points of threads in the one depth-first run (`thread_points`) and on what a thread of an accepted program holds
+//! there (`ownership_laws`), which says that each block is there that a statement needs, and that none is where it puts one.
 //!
 //! Its one theorem, by [`ThreadRun::advance`]: a thread that stands at a point of the one depth-first run comes to the point at which the
 //! run does the next action of this thread, and the answer is this action. What a step leaves is what the step of the depth-first run
@@ -25,6 +26,11 @@
 //! - **A statement answers what comes before the rest**, at most two frames; the layer above puts the rest of its list on the stack before the
 //!   statement is done. So no step needs the stack, the numbers of a list and the node of a statement are looked up once each, and little is
 //!   moved.
+//! - **A thread has frames wherever it stops, and no place of flat code.** So nothing but the run along flat code knows of it. Whether the frames
+//!   of the thread are those of the place is tested, and so is the length of its row: then nothing about them has to be known at each point.
+//! - **Memory for the frames of a mark is found before the run**, which cannot be undone.
+//! - **A run along flat code is given no more turns than lead to where the thread is to stop**, and the rest again afterwards: it needs no bound
+//!   of its own.
 //! - An action is not done by a step: the step names it, with the memory that it needs. The mark of its statement and the action are one step
 //!   of the run, so they are done together.
 //! - **A call and a Join are no steps of this layer.** A call needs the frames of its caller, so the layer above, which looks the node up,
@@ -39,14 +45,13 @@
 #![tactic(auto)]
 
 mod acts;
-mod ahead;
 mod calls;
 mod changes;
 mod done;
 mod ends;
+mod flat;
 mod frames;
 mod lists;
-mod plain;
 mod putting;
 mod ready;
 mod run;

@@ -1,7 +1,7 @@
 //! Lists of statements and loops, one statement at a time.
 
 ghost use Rattle.std.specs.Prelude.{◌≡◌, ◌+◌, ◌≤◌, IfOk};
-ghost use Rattle.thread_code.specs.Codes.{code_shown};
+ghost use Rattle.node_table.specs.Codes.{code_shown};
 ghost use Rattle.depth_first_list.specs.QuotaWords.{quota_words};
 ghost use Rattle.thread_stack.specs.Measure.{left_to_do, node_cost};
 ghost use Rattle.thread_run.specs.Functions.{functions_of};
@@ -11,8 +11,8 @@ use crate::calls::calls;
 use crate::run::ThreadRun;
 use crate::{Ready, statement};
 use depth_first_list::Quota;
-use thread_code::Code;
 use std::alloc::{AllocError, Global};
+use thread_code::Code;
 use thread_stack::{Frame, ListOf};
 
 impl ThreadRun {

@@ -1,12 +1,12 @@
 ghost use Rattle.std.specs.Prelude.{◌≡◌, ◌<◌, None, Ok, IfOk};
 ghost use Rattle.depth_first_list.specs.QuotaWords.{quota_words};
-ghost use Rattle.thread_code.specs.Codes.{code_shown};
+ghost use Rattle.node_table.specs.Codes.{code_shown};
 ghost use Rattle.thread_state.specs.States.{words_held};
 
 use crate::Ready;
 use depth_first_list::Quota;
-use thread_code::Code;
 use std::alloc::{AllocError, Global};
+use thread_code::Code;
 use thread_output::Told;
 use thread_stack::Frame;
 use thread_state::ThreadState;
@@ -30,7 +30,7 @@ impl ThreadRun {
     ghost use Rattle.thread_run.specs.Functions.{functions_of, frames_of};
 
     /// Goes on until the next action comes, which the answer names with the memory that it needs, or until fewer than `stop` turns of loops and
-    /// calls are left: then the answer is None. The turns are looked at once in `lists` lists of statements, or more often. The action is not done.
+    /// calls are left: then the answer is None. The action is not done.
     ///
     /// # Errors
     ///
@@ -41,7 +41,6 @@ impl ThreadRun {
         code: &Code,
         k: Quota,
         stop: u32,
-        lists: u32,
     ) -> Result<Option<Ready>, AllocError>
         requires known { IsKnown (code_shown code.now) (quota_words k) self.old }
         ensures meaning { StepsOn (code_shown code.now) (quota_words k) self.old result self.new }
@@ -56,13 +55,11 @@ impl ThreadRun {
         ensures words { words_held self.new.state ≡ words_held self.old.state }
     {
         'steps: while self.state.turns() >= stop {
+            self.ahead(code, stop)?;
             let Some(frame) = self.frames.pop() else {
                 return Ok(Some(Ready::End));
             };
-            let Some(next) = self.ahead(code, k, frame, lists)? else {
-                return Ok(Some(Ready::End));
-            };
-            if let Some(ready) = self.go_on(alloc, code, k, next)? {
+            if let Some(ready) = self.go_on(alloc, code, k, frame)? {
                 return Ok(Some(ready));
             }
         }

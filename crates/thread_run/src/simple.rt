@@ -6,7 +6,7 @@ ghost use Rattle.node_table.specs.Names.{slot_names};
 ghost use Rattle.node_table.specs.Shown.{expr_shown};
 ghost use Rattle.node_table.specs.Table.{Table};
 ghost use Rattle.node_table.specs.Reading.{IsExpr};
-ghost use Rattle.thread_code.specs.Codes.{code_shown};
+ghost use Rattle.node_table.specs.Codes.{code_shown};
 ghost use Rattle.thread_points.specs.Passed.States.{Setting, with_number};
 ghost use Rattle.thread_points.specs.Passed.Values.{value};
 ghost use Rattle.thread_points.specs.Passed.Run.{print_number};
@@ -16,15 +16,13 @@ ghost use Rattle.thread_stack.specs.Lists.{numbers_of};
 ghost use Rattle.thread_stack.specs.Measure.{list_cost, node_cost};
 ghost use Rattle.thread_run.specs.Costs.{done_cost};
 ghost use Rattle.thread_run.specs.Dones.{Leads};
-ghost use Rattle.thread_run.specs.Plains.{done_of};
 
 use crate::done::Done;
-use crate::plain::Plain;
 use crate::ready::Ready;
 use dag_order::{FaultAt, FaultKind};
 use node_table::CodeExpr;
-use thread_code::Code;
 use number_operators::is_true;
+use thread_code::Code;
 use thread_stack::ListOf;
 use thread_state::ThreadState;
 
@@ -49,32 +47,36 @@ pub(crate) fn print(state: &ThreadState, line: u32, expr: &CodeExpr) -> Done
 }
 
 /// `if cond { then } else { other }`
-#[inline(always)]
-pub(crate) fn choose(state: &ThreadState, code: &Code, number: u32, cond: &CodeExpr) -> Plain
+pub(crate) fn choose(
+    state: &ThreadState,
+    code: &Code,
+    number: u32,
+    line: u32,
+    cond: &CodeExpr,
+) -> Done
     requires { state.now.faulted ≡ false }
-    ensures meaning { (k line : ℕ) (c : Setting) (g : Func) (e : Expr) (a b : Body) → IsExpr (slot_names g) (expr_shown cond.now) e
+    ensures meaning { (k : ℕ) (c : Setting) (g : Func) (e : Expr) (a b : Body) → IsExpr (slot_names g) (expr_shown cond.now) e
         → AreStatements c.program (code_shown code.now) (slot_names g) (numbers_of (code_shown code.now) (ListOf.Then number)) a
         → AreStatements c.program (code_shown code.now) (slot_names g) (numbers_of (code_shown code.now) (ListOf.Other number)) b
-        → Leads (code_shown code.now) k c g state.now (done_of number line result) state.now
+        → Leads (code_shown code.now) k c g state.now result state.now
         (λ fs s. step_with_number line (value s.store e) (step_if a b) fs s) }
-    ensures cost { (line : ℕ) → done_cost (code_shown code.now) (done_of number line result)
+    ensures cost { done_cost (code_shown code.now) result
         ≤ list_cost (node_cost (code_shown code.now)) (numbers_of (code_shown code.now) (ListOf.Then number))
         + list_cost (node_cost (code_shown code.now)) (numbers_of (code_shown code.now) (ListOf.Other number)) }
 {
     match state.evaluate(cond) {
         Ok(value) => take_arm(code, number, is_true(value)),
-        Err(kind) => Plain::Faults(kind),
+        Err(kind) => fault(kind, line),
     }
 }
 
 /// The arm of an `if` whose condition holds, or the other one.
-#[inline(always)]
-fn take_arm(code: &Code, number: u32, holds: bool) -> Plain
-    ensures meaning { (k line : ℕ) (c : Setting) (g : Func) (u : ThreadState) (a b : Body)
+fn take_arm(code: &Code, number: u32, holds: bool) -> Done
+    ensures meaning { (k : ℕ) (c : Setting) (g : Func) (u : ThreadState) (a b : Body)
         → AreStatements c.program (code_shown code.now) (slot_names g) (numbers_of (code_shown code.now) (ListOf.Then number)) a
         → AreStatements c.program (code_shown code.now) (slot_names g) (numbers_of (code_shown code.now) (ListOf.Other number)) b
-        → Leads (code_shown code.now) k c g u (done_of number line result) u (λ fs s. step_branch holds a b fs s) }
-    ensures cost { (line : ℕ) → done_cost (code_shown code.now) (done_of number line result)
+        → Leads (code_shown code.now) k c g u result u (λ fs s. step_branch holds a b fs s) }
+    ensures cost { done_cost (code_shown code.now) result
         ≤ list_cost (node_cost (code_shown code.now)) (numbers_of (code_shown code.now) (ListOf.Then number))
         + list_cost (node_cost (code_shown code.now)) (numbers_of (code_shown code.now) (ListOf.Other number)) }
 {
@@ -86,16 +88,15 @@ fn take_arm(code: &Code, number: u32, holds: bool) -> Plain
 }
 
 /// A list of statements comes next, where there are any.
-#[inline(always)]
-fn do_list(code: &Code, list: ListOf) -> Plain
-    ensures meaning { (k n line : ℕ) (c : Setting) (g : Func) (u : ThreadState) (b : Body)
+fn do_list(code: &Code, list: ListOf) -> Done
+    ensures meaning { (k : ℕ) (c : Setting) (g : Func) (u : ThreadState) (b : Body)
         → AreStatements c.program (code_shown code.now) (slot_names g) (numbers_of (code_shown code.now) list) b
-        → Leads (code_shown code.now) k c g u (done_of n line result) u (λ fs s. middle (before_all b fs) s) }
-    ensures cost { (n line : ℕ) → done_cost (code_shown code.now) (done_of n line result)
+        → Leads (code_shown code.now) k c g u result u (λ fs s. middle (before_all b fs) s) }
+    ensures cost { done_cost (code_shown code.now) result
         ≤ list_cost (node_cost (code_shown code.now)) (numbers_of (code_shown code.now) list) }
 {
-    match code.frame_from(list, 0) {
-        Some(_) => Plain::Enters(list),
-        None => Plain::Nothing,
+    Done::Silent {
+        first: code.frame_from(list, 0),
+        next: None,
     }
 }

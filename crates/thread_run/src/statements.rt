@@ -5,7 +5,7 @@ ghost use Rattle.par_tree.specs.Tree.{Func, Stmt};
 ghost use Rattle.node_table.specs.Names.{slot_names};
 ghost use Rattle.node_table.specs.Shown.{node_shown};
 ghost use Rattle.node_table.specs.Table as tables;
-ghost use Rattle.thread_code.specs.Codes.{code_shown};
+ghost use Rattle.node_table.specs.Codes.{code_shown};
 ghost use Rattle.depth_first_list.specs.QuotaWords.{quota_words};
 ghost use Rattle.thread_points.specs.Passed.States.{Setting};
 ghost use Rattle.thread_points.specs.Passed.Middle.{step_statement};
@@ -19,16 +19,15 @@ ghost use Rattle.thread_run.specs.Meanings.{IsMeant};
 use crate::acts::{allocate, both, free};
 use crate::changes::{Parts, put, repeat, set, split};
 use crate::done::Done;
-use crate::plain::told;
 use crate::simple::{choose, print};
 use depth_first_list::Quota;
 use node_table::{Node, NodeKind};
-use thread_code::Code;
 use std::alloc::{AllocError, Global};
+use thread_code::Code;
 use thread_state::ThreadState;
 
-/// One statement of a thread that no fault has ended: the node of this number, which is no call. A plain statement comes here where the loop
-/// over them left it, at its fault.
+/// One statement of a thread that no fault has ended: the node of this number, which is no call. A plain
+/// statement comes here where flat code leaves it: at its fault, or where its list has no flat code.
 ///
 /// # Errors
 ///
@@ -51,21 +50,17 @@ pub fn statement(
 {
     let line = node.line;
     match &node.kind {
-        NodeKind::Let { name, value } => Ok(told(number, line, set(state, *name, value))),
-        NodeKind::Assign { name, value } => Ok(told(number, line, set(state, *name, value))),
+        NodeKind::Let { name, value } => Ok(set(state, line, *name, value)),
+        NodeKind::Assign { name, value } => Ok(set(state, line, *name, value)),
         NodeKind::Put {
             block,
             index,
             value,
-        } => Ok(told(number, line, put(state, *block, index, value))),
+        } => Ok(put(state, line, *block, index, value)),
         NodeKind::Alloc { name, size } => allocate(state, alloc, k, line, *name, size),
         NodeKind::Free { name } => Ok(free(state, *name)),
-        NodeKind::If { cond, .. } => Ok(told(number, line, choose(state, code, number, cond))),
-        NodeKind::While { cond, body } => Ok(told(
-            number,
-            line,
-            repeat(state, code, number, cond, body),
-        )),
+        NodeKind::If { cond, .. } => Ok(choose(state, code, number, line, cond)),
+        NodeKind::While { cond, .. } => Ok(repeat(state, code, number, line, cond)),
         NodeKind::Call { .. } => unreachable!(),
         NodeKind::Print { value } => Ok(print(state, line, value)),
         NodeKind::Both { .. } => Ok(both(state, number, line)),

@@ -1,15 +1,15 @@
 //! One step of a thread, by the frame that comes next.
 
 ghost use Rattle.std.specs.Prelude.{IfOk};
-ghost use Rattle.thread_code.specs.Codes.{code_shown};
+ghost use Rattle.node_table.specs.Codes.{code_shown};
 ghost use Rattle.depth_first_list.specs.QuotaWords.{quota_words};
 ghost use Rattle.thread_run.specs.Stepping.{IsKnownAt, StepsRun, KeepsFunctions, KeepsCounts, RunsLess, ComesBy, KnownAgain};
 
 use crate::run::ThreadRun;
 use crate::{Ready, allocates, dummies, rejoins};
 use depth_first_list::Quota;
-use thread_code::Code;
 use std::alloc::{AllocError, Global};
+use thread_code::Code;
 use thread_stack::Frame;
 
 impl ThreadRun {

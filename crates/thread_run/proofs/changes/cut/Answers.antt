@@ -6,7 +6,7 @@ use Rattle.thread_points.specs.Passed.Stores.{block_of}
 use Rattle.thread_points.specs.Passed.Run.{cut_of}
 use Rattle.thread_points.specs.Passed.Middle.{rejoins, step_split}
 use Rattle.node_table.specs.Names.{slot_names, name_at}
-use Rattle.thread_code.specs.Codes.{code_shown}
+use Rattle.node_table.specs.Codes.{code_shown}
 use Rattle.thread_stack.specs.declared.frame.Frame.TheVariants.{Rejoins}
 use Rattle.thread_state.specs.Effects.{OnStop}
 use Rattle.thread_state.specs.Cuts.{cut_or_fault}

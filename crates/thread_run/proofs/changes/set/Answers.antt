@@ -9,21 +9,14 @@ use Rattle.par_tree.specs.Tree.{Name}
 use Rattle.thread_run.specs.Dones.{Comes, settled_done}
 use Rattle.thread_run.specs.declared.done.Done.{Done}
 use Rattle.thread_run.proofs.Coming.{settled_comes, settled_silent}
-use Rattle.thread_run.proofs.PlainSteps.{settled_is, settled_cost, settled_left}
 use Rattle.thread_run.proofs.changes.set.Goals as goal
 
 pub returns-clause-meaning : goal.returns-clause-meaning
-returns-clause-meaning c = λ t k n line setting g x e slot read gs xs fs s at.
+returns-clause-meaning c = λ t k setting g x e slot read gs xs fs s at.
     let going : c.set-result.new.self.faulted ≡ _ = c.set-result.ensures.going ∙ c.requires.going in
-    subst (λ (d : Done). Comes setting t (g ∷ gs) c.set-result.new.self xs fs s (middle fs (with_number line (value s.store e) (set_integer x) s)) d) (sym (settled_is n line c.settle.result c.set-result.result c.settle.ensures))
-    (subst (λ (y : Name). Comes setting t (g ∷ gs) c.set-result.new.self xs fs s (middle fs (with_number line (value s.store e) (set_integer y) s)) (settled_done line c.set-result.result)) slot.reads
+    subst (λ (d : Done). Comes setting t (g ∷ gs) c.set-result.new.self xs fs s (middle fs (with_number c.args.line (value s.store e) (set_integer x) s)) d) (sym c.settle.ensures)
+    (subst (λ (y : Name). Comes setting t (g ∷ gs) c.set-result.new.self xs fs s (middle fs (with_number c.args.line (value s.store e) (set_integer y) s)) (settled_done c.args.line c.set-result.result)) slot.reads
     (let y : Name = name_at (slot_names g) c.args.slot in
-    settled_comes t k setting g gs c.args.state.now c.set-result.new.self xs fs line (with_number line (value s.store e) (set_integer y)) s c.set-result.result at
-    (settled_silent setting t g gs c.set-result.new.self xs fs line (value s.store e) (set_integer y) s at.frames going (λ v is. refl))
-    (c.set-result.ensures.state (map slot_names gs) (slot_names g) line e read s at.state)))
-
-pub returns-clause-cost : goal.returns-clause-cost
-returns-clause-cost c = λ t n line. settled_cost t n line c.settle.result c.set-result.result c.settle.ensures
-
-pub returns-clause-left : goal.returns-clause-left
-returns-clause-left c = settled_left _ c.settle.result c.set-result.result c.settle.ensures c.set-result.ensures.same
+    settled_comes t k setting g gs c.args.state.now c.set-result.new.self xs fs c.args.line (with_number c.args.line (value s.store e) (set_integer y)) s c.set-result.result at
+    (settled_silent setting t g gs c.set-result.new.self xs fs c.args.line (value s.store e) (set_integer y) s at.frames going (λ v is. refl))
+    (c.set-result.ensures.state (map slot_names gs) (slot_names g) c.args.line e read s at.state)))

@@ -4,7 +4,7 @@ use Rattle.std.specs.Prelude.{map}
 use Rattle.thread_points.specs.Passed.Values.{value}
 use Rattle.thread_points.specs.Passed.Middle.{step_with_number, step_split}
 use Rattle.node_table.specs.Names.{slot_names}
-use Rattle.thread_code.specs.Codes.{code_shown}
+use Rattle.node_table.specs.Codes.{code_shown}
 use Rattle.thread_run.proofs.Coming.{result_at_point, number_is}
 use Rattle.thread_run.proofs.changes.split.Goals as goal
 

@@ -1,7 +1,7 @@
 use Rattle.std.proofs.Common.{◌≡◌, ◌∙◌, Option, Some, refl, sym, ap, subst}
 use Rattle.std.specs.Option.{option_map}
 use Rattle.std.proofs.lemmas.Option.{slice_get-map}
-use Rattle.thread_code.specs.Codes.{code_shown, nodes_of}
+use Rattle.node_table.specs.Codes.{code_shown, nodes_of}
 use Rattle.node_table.specs.Shown.{node_shown, kind_shown, expr_shown}
 use Rattle.node_table.specs.Table.{Kind, split_node}
 use Rattle.thread_state.specs.States.{own_row}

@@ -1,5 +1,5 @@
 use Rattle.depth_first_list.specs.QuotaWords.{quota_words}
-use Rattle.thread_code.specs.Codes.{code_shown}
+use Rattle.node_table.specs.Codes.{code_shown}
 use Rattle.thread_stack.specs.Measure.{left_to_do}
 use Rattle.thread_run.specs.Functions.{frames_of}
 use Rattle.thread_run.specs.Stepping.{UnderWay}

@@ -1,6 +1,6 @@
 use Rattle.std.proofs.Common.{◌∙◌, sym}
 use Rattle.depth_first_list.specs.QuotaWords.{quota_words}
-use Rattle.thread_code.specs.Codes.{code_shown}
+use Rattle.node_table.specs.Codes.{code_shown}
 use Rattle.thread_run.proofs.Meetings.{again_does, again_met, again_skipped, again_cost}
 use Rattle.thread_run.proofs.run.ThreadRun.again.Goals as goal
 

@@ -1,6 +1,6 @@
 use Rattle.std.proofs.Common.{refl, sym, subst}
 use Rattle.depth_first_list.specs.QuotaWords.{quota_words}
-use Rattle.thread_code.specs.Codes.{code_shown}
+use Rattle.node_table.specs.Codes.{code_shown}
 use Rattle.thread_points.specs.Points.{IsPlain}
 use Rattle.thread_stack.specs.declared.frame.Frame.TheVariants.{Allocates}
 use Rattle.thread_run.proofs.Following.{acts_meaning, stays_meaning}

@@ -6,7 +6,7 @@ use Rattle.par_tree.specs.Names.{param_names}
 use Rattle.thread_points.specs.Passed.States.{State}
 use Rattle.thread_points.specs.Passed.Calls.{all_passed}
 use Rattle.node_table.specs.Names.{slot_names}
-use Rattle.thread_code.specs.Codes.{code_shown, funcs_of}
+use Rattle.node_table.specs.Codes.{code_shown, funcs_of}
 use Rattle.node_table.specs.Shown.{node_shown, kind_shown, func_shown, target_shown, args_shown}
 use Rattle.node_table.specs.Reading.{AreSlots, AreArgs}
 use Rattle.node_table.specs.Table.{Table, Kind, call_node}

@@ -3,7 +3,7 @@ use Rattle.std.specs.Prelude.{slice_get}
 use Rattle.std.specs.Option.{option_map}
 use Rattle.std.proofs.lemmas.Option.{slice_get-map}
 use Rattle.par_tree.specs.Names.{param_names}
-use Rattle.thread_code.specs.Codes.{code_shown, nodes_of, funcs_of}
+use Rattle.node_table.specs.Codes.{code_shown, nodes_of, funcs_of}
 use Rattle.node_table.specs.Shown.{node_shown, kind_shown, func_shown, target_shown, args_shown}
 use Rattle.node_table.specs.Reading.{AreSlots, AreArgs}
 use Rattle.node_table.specs.Table.{Table, Kind, call_node}

@@ -2,7 +2,7 @@ use Rattle.std.proofs.Common.{◌≡◌, ◌∙◌, Option, Some, refl, sym, ap}
 use Rattle.std.specs.Prelude.{slice_get}
 use Rattle.std.specs.Option.{option_map}
 use Rattle.std.proofs.lemmas.Option.{slice_get-map}
-use Rattle.thread_code.specs.Codes.{code_shown, funcs_of}
+use Rattle.node_table.specs.Codes.{code_shown, funcs_of}
 use Rattle.node_table.specs.Shown.{func_shown}
 use Rattle.node_table.specs.Table.{Table}
 use Rattle.node_table.specs.declared.func_code.FuncCode.{FuncCode}

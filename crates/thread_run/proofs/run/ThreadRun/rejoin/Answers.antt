@@ -1,6 +1,6 @@
 use Rattle.std.proofs.Common.{refl}
 use Rattle.depth_first_list.specs.QuotaWords.{quota_words}
-use Rattle.thread_code.specs.Codes.{code_shown}
+use Rattle.node_table.specs.Codes.{code_shown}
 use Rattle.thread_stack.specs.declared.frame.Frame.TheVariants.{Rejoins}
 use Rattle.thread_run.specs.declared.run.ThreadRun.{ThreadRun}
 use Rattle.thread_run.proofs.Following.{rests_meaning, wants_meaning}

@@ -5,7 +5,7 @@ use Rattle.std.proofs.Math.Logic.{∥∥₁_elim, ∥∥₁_map}
 use Rattle.std.proofs.lemmas.Option.{slice_get-map}
 use denote.Struct.Props.{props}
 use Rattle.depth_first_list.specs.QuotaWords.{quota_words}
-use Rattle.thread_code.specs.Codes.{code_shown, nodes_of}
+use Rattle.node_table.specs.Codes.{code_shown, nodes_of}
 use Rattle.node_table.specs.Shown.{node_shown, kind_shown}
 use Rattle.node_table.specs.Table as tables
 use Rattle.node_table.specs.Table.{Kind}

@@ -1,7 +1,7 @@
 use Rattle.std.proofs.Common.{rules, ◌≡◌, ◌+◌, ◌<◌, ◌≤◌, ◌∙◌, ℕ, List, ◌∷◌, length, slice_get, slice_index_or, Some, sym, subst}
 use Rattle.std.proofs.lemmas.Option.{slice_get-get_or}
 use Rattle.depth_first_list.specs.QuotaWords.{quota_words}
-use Rattle.thread_code.specs.Codes.{code_shown}
+use Rattle.node_table.specs.Codes.{code_shown}
 use Rattle.thread_stack.specs.Lists.{numbers_of}
 use Rattle.thread_stack.specs.declared.frame.Frame.TheVariants.{Statements}
 use Rattle.thread_run.specs.Functions.{frames_of}
