@@ -23,11 +23,10 @@ use crate::aside::set_parent_aside;
 use containers::Boxed;
 use depth_first_list::Quota;
 use deque_list::{InsertRefused, List};
-use node_table::Code;
 use play_rules::Stop;
 use scheduler_state::{Event, Scheduler};
 use std::alloc::Global;
-use thread_frames::Thread;
+use thread_frames::{Code, Thread};
 use worker_step::{step_of_owner, step_of_thief};
 
 /// Makes room for one more entry, if one more is allowed.

@@ -22,13 +22,13 @@ use crate::events::event_of;
 use dag_order::{Lines, ThreadId};
 use depth_first_list::Quota;
 use language_limits::{MOST_ACTIONS, MOST_ENTRIES, MOST_WORKERS, RECORD_WORDS};
-use node_table::Code;
 use play_rules::{RunEnd, some_ready};
 use scheduler_state::{
     OutputFail, Scheduler, Stepped, end_behind, is_finish, open_ahead, scheduler_of, told,
 };
 use space_ledger::{Books, Moves};
 use std::alloc::{AllocError, Global};
+use thread_frames::Code;
 
 /// A run of a program by some workers with one ready list, one event at a time.
 #[derive(Drop)]

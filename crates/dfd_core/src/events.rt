@@ -16,10 +16,10 @@ ghost use Rattle.scheduler_state.specs.Moments.{IsSound, CanGoOn, SameTerms, Has
 ghost use Rattle.worker_step.specs.Thefts.{StepsBy};
 
 use depth_first_list::Quota;
-use node_table::Code;
 use play_rules::Stop;
 use scheduler_state::{Event, Scheduler};
 use std::alloc::Global;
+use thread_frames::Code;
 use worker_step::{step_of_owner, step_of_thief};
 
 /// The event of a worker. None comes exactly where it is idle and nothing in reach can be stolen.

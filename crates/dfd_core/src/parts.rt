@@ -18,10 +18,9 @@ use containers::Boxed;
 use dag_order::ThreadId;
 use depth_first_list::Quota;
 use deque_list::{DequeId, Lane, Order};
-use node_table::Code;
 use play_rules::RunEnd;
 use space_ledger::{Books, Moves};
-use thread_frames::{Ended, Thread};
+use thread_frames::{Code, Ended, Thread};
 
 /// What is left of a run that has ended.
 #[derive(Drop)]

@@ -28,7 +28,6 @@ use dag_order::{Lines, ThreadId};
 use depth_first_list::Quota;
 use deque_list::{DequeId, List};
 use language_limits::{MOST_ACTIONS, MOST_DEQUES, MOST_WORKERS};
-use node_table::Code;
 use open_periods::{Period, Seat};
 use play_rules::{RunEnd, first_mover, first_ready, some_ready};
 use scheduler_state::{
@@ -37,7 +36,7 @@ use scheduler_state::{
 };
 use space_ledger::{Books, Moves};
 use std::alloc::{AllocError, Global};
-use thread_frames::Thread;
+use thread_frames::{Code, Thread};
 use worker_step::give_up_deque;
 
 /// A run of a program by some workers, one event at a time.

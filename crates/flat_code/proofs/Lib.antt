@@ -8,3 +8,4 @@ pub mod Forwards
 pub mod Starting
 pub mod OfPrograms
 pub mod Lengths
+pub mod Passed

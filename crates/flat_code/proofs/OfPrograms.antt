@@ -1,9 +1,9 @@
 -- Statements of a program have flat code.
 use Rattle.std.proofs.Common.{◌≡◌, ℕ, zero, suc, ◌+◌, ◌<◌, ◌≤◌, List, [], ◌∷◌, length, Some, sym, ap, subst, arith}
 use Rattle.std.proofs.lemmas.Option.{slice_get_within}
-use Rattle.depth_first_run.specs.Passed.Tree.{Name, Program, Stmt, Body, done, step}
-use Rattle.depth_first_run.specs.Passed.Tree.{let_stmt, assign_stmt, put_stmt, alloc_stmt, free_stmt, if_stmt, while_stmt, call_stmt, print_stmt}
-use Rattle.depth_first_run.specs.Passed.Tree.{par_stmt, split_stmt}
+use Rattle.par_tree.specs.Tree.{Name, Program, Stmt, Body, done, step}
+use Rattle.par_tree.specs.Tree.{let_stmt, assign_stmt, put_stmt, alloc_stmt, free_stmt, if_stmt, while_stmt, call_stmt, print_stmt}
+use Rattle.par_tree.specs.Tree.{par_stmt, split_stmt}
 use Rattle.node_table.specs.Table.{Kind, let_node, assign_node, put_node, alloc_node, free_node, if_node, while_node, call_node, print_node}
 use Rattle.node_table.specs.Table.{both_node, split_node, Table}
 use Rattle.node_table.specs.Programs.{IsStmt, IsBody}

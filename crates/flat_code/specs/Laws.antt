@@ -1,6 +1,6 @@
 -- What a caller may use of flat code that is made.
 use Rattle.std.specs.Prelude.{ℕ, ◌≤◌, List, length}
-use Rattle.depth_first_run.specs.Passed.Tree.{Name, Program, Body}
+use Rattle.par_tree.specs.Tree.{Name, Program, Body}
 use Rattle.node_table.specs.Table.{Table}
 use Rattle.thread_stack.specs.declared.list_of.ListOf.{ListOf}
 use Rattle.thread_stack.specs.Lists.{kind_at, numbers_from}

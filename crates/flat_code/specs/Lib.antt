@@ -6,3 +6,4 @@ pub mod Room
 pub mod Laws
 pub mod Listing
 pub mod Refused
+pub mod Passed

@@ -54,7 +54,7 @@ flat_shown ps = flat_of (places_shown ps)
 
 -- the table that code is made of
 abbrev pub table_of : Scope → Table
-table_of s = code_shown s.code.now
+table_of s = code_shown s.table.now
 
 -- these are the acts and the test of a condition, in a function with k slots
 abbrev pub IsCondition : Condition → Expr → (k : ℕ) → Type 0

@@ -96,7 +96,7 @@ fn fits_node(scope: &Scope, number: u32, depth: u32) -> bool
     if depth == 0 {
         return false;
     }
-    match scope.code.node(number) {
+    match scope.table.node(number) {
         None => false,
         Some(node) => fits_kind(scope, &node.kind, depth - 1),
     }

@@ -93,7 +93,7 @@ fn lower_node(alloc: Global, scope: &Scope, site: &Site, depth: u32) -> Result<P
         ≤ site.now.place + length (node_made (table_of scope.now) scope.now.slots depth site.now.place site.now.number
         (frames_shown site.now.here.now) (frames_shown site.now.behind.now))) }
 {
-    match scope.code.node(site.number) {
+    match scope.table.node(site.number) {
         Some(node) => lower_kind(alloc, scope, site, &node.kind, depth - 1),
         None => unreachable!(),
     }

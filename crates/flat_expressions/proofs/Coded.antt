@@ -1,10 +1,10 @@
 -- The straight code of an expression leaves its number.
 use Rattle.std.proofs.Common.{◌≡◌, ℕ, suc, ◌<◌, ◌≤◌, List, [], ◌∷◌, ◌++◌, length, ℤ, pos, Result, Ok, Err, refl, sym, ap, ◌∙◌, subst, arith}
 use Rattle.dag_order.specs.declared.fault.FaultKind.{FaultKind}
-use Rattle.depth_first_run.specs.Passed.Tree.{ChainOp, Comparison}
-use Rattle.depth_first_run.specs.Values.{Outcome, and_then, and_both, operated, negated, compared, number_at}
-use Rattle.node_table.specs.Table.{Expr, num, var, get, len_of, neg, chain, cmp, Links, last, link}
-use Rattle.node_table.specs.Reading.{FitsExpr, FitsLinks}
+use Rattle.par_tree.specs.Tree.{ChainOp, Comparison}
+use Rattle.slot_store.specs.Passed.Values.{Outcome, and_then, and_both, operated, negated, compared, number_at}
+use Rattle.slot_store.specs.Passed.Table.{Expr, num, var, get, len_of, neg, chain, cmp, Links, last, link}
+use Rattle.slot_store.specs.Passed.Reading.{FitsExpr, FitsLinks}
 use Rattle.slot_store.specs.Rows.{Entry, integer_at, items_at, with_integer_at}
 use Rattle.flat_expressions.specs.Acts.{Operand, at_slot, operand_in, Act, element_to, negate_to, operate_to, compare_to, left_in, act_on, Ran, ends, fails, next_act, straight}
 use Rattle.flat_expressions.specs.Values.{value_in, chained_in}

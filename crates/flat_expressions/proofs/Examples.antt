@@ -1,9 +1,9 @@
 -- Worked examples: the code of an expression, and what it gives.
 use Rattle.std.proofs.Common.{◌≡◌, [], ◌∷◌, ℤ, pos, Ok, refl}
 use Rattle.dag_order.specs.declared.fault.FaultKind.TheVariants as faults
-use Rattle.depth_first_run.specs.Passed.Tree.{plus, times, over, below}
-use Rattle.depth_first_run.specs.Values.{operated}
-use Rattle.node_table.specs.Table.{Expr, num, var, get, chain, cmp, last, link}
+use Rattle.par_tree.specs.Tree.{plus, times, over, below}
+use Rattle.slot_store.specs.Passed.Values.{operated}
+use Rattle.slot_store.specs.Passed.Table.{Expr, num, var, get, chain, cmp, last, link}
 use Rattle.slot_store.specs.Rows.{Entry, blank}
 use Rattle.flat_expressions.specs.Acts.{at_slot, literal, element_to, operate_to, ends, fails, straight, compares}
 use Rattle.flat_expressions.specs.Values.{value_in}

@@ -3,3 +3,4 @@ pub mod Coded
 pub mod Statements
 pub mod Shown
 mod Examples
+pub mod Passed

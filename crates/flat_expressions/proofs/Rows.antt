@@ -1,8 +1,8 @@
 -- Rows that are the same in front, and a number that is left in a row.
 use Rattle.std.proofs.Common.{◌≡◌, ℕ, ◌<◌, ◌≤◌, List, [], length, ℤ, pos, Ok, Err, refl, ap, ◌∙◌, subst, arith, length-set}
-use Rattle.depth_first_run.specs.Values.{Outcome, and_then, and_both, operated, negated, compared, number_at}
-use Rattle.node_table.specs.Table.{Expr, num, var, get, len_of, neg, chain, cmp, Links, last, link}
-use Rattle.node_table.specs.Reading.{FitsExpr, FitsLinks}
+use Rattle.slot_store.specs.Passed.Values.{Outcome, and_then, and_both, operated, negated, compared, number_at}
+use Rattle.slot_store.specs.Passed.Table.{Expr, num, var, get, len_of, neg, chain, cmp, Links, last, link}
+use Rattle.slot_store.specs.Passed.Reading.{FitsExpr, FitsLinks}
 use Rattle.slot_store.specs.Rows.{Entry, entry_at, items_at, first_of, with_integer_at}
 use Rattle.slot_store.proofs.Rows.{same_entry, other_entry}
 use Rattle.flat_expressions.specs.Acts.{Operand, at_slot, literal, operand_in, left_in, Ran, ends, fails, next_act, straight}

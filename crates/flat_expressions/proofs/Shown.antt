@@ -1,10 +1,10 @@
 -- The number of an expression over a row is its value over the store that the row shows.
 use Rattle.std.proofs.Common.{◌≡◌, List, length, ℤ, pos, Ok, refl, ap, ◌∙◌}
-use Rattle.depth_first_run.specs.Passed.Tree.{Name}
-use Rattle.depth_first_run.specs.Stores.{Store}
-use Rattle.depth_first_run.specs.Values.{Outcome, and_then, and_both, operated, negated, compared, number_at, value, chained}
-use Rattle.node_table.specs.Table.{Expr, num, var, get, len_of, neg, chain, cmp, Links, last, link}
-use Rattle.node_table.specs.Reading.{expr_read, links_read, FitsExpr, FitsLinks}
+use Rattle.par_tree.specs.Tree.{Name}
+use Rattle.slot_store.specs.Passed.Stores.{Store}
+use Rattle.slot_store.specs.Passed.Values.{Outcome, and_then, and_both, operated, negated, compared, number_at, value, chained}
+use Rattle.slot_store.specs.Passed.Table.{Expr, num, var, get, len_of, neg, chain, cmp, Links, last, link}
+use Rattle.slot_store.specs.Passed.Reading.{expr_read, links_read, FitsExpr, FitsLinks}
 use Rattle.slot_store.specs.Rows.{Entry, items_at}
 use Rattle.slot_store.specs.Agreement.{ShowsStore}
 use Rattle.slot_store.proofs.Agreement.{integer_is, items_are}

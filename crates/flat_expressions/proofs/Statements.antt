@@ -3,10 +3,10 @@ use Rattle.std.proofs.Common.{inl, inr, ◌≡◌, ℕ, suc, ◌<◌, ◌≤◌,
 use Rattle.std.proofs.Common.{refl, sym, ap, ◌∙◌, subst, arith, length-set}
 use Rattle.std.specs.Prelude.{◌⊎◌, slice_set}
 use Rattle.std.proofs.lemmas.Bool.{cases_eq}
-use Rattle.depth_first_run.specs.Passed.Tree.{Comparison}
-use Rattle.depth_first_run.specs.Values.{Outcome, and_then, and_both, compared, holds, truth, is_true, place_in}
-use Rattle.node_table.specs.Table.{Expr, num, var, get, len_of, neg, chain, cmp}
-use Rattle.node_table.specs.Reading.{FitsExpr}
+use Rattle.par_tree.specs.Tree.{Comparison}
+use Rattle.slot_store.specs.Passed.Values.{Outcome, and_then, and_both, compared, holds, truth, is_true, place_in}
+use Rattle.slot_store.specs.Passed.Table.{Expr, num, var, get, len_of, neg, chain, cmp}
+use Rattle.slot_store.specs.Passed.Reading.{FitsExpr}
 use Rattle.slot_store.specs.Rows.{Entry, entry_at, items_at, first_of, with_integer_at}
 use Rattle.slot_store.proofs.Rows.{same_entry, other_entry}
 use Rattle.flat_expressions.specs.Acts.{Operand, at_slot, operand_in, Act, write_at, left_in, written_in, Ran, ends, fails, next_act, straight}

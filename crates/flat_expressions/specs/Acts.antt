@@ -3,8 +3,8 @@
 use Rattle.std.specs.Prelude.{ℕ, Bool, List, [], ◌∷◌, length, slice_set, ℤ, pos, Option, Some, None, Result, Ok, Err}
 use Rattle.dag_order.specs.declared.fault.FaultKind.{FaultKind}
 use Rattle.dag_order.specs.declared.fault.FaultKind.TheVariants as faults
-use Rattle.depth_first_run.specs.Passed.Tree.{ChainOp, Comparison}
-use Rattle.depth_first_run.specs.Values.{Outcome, operated, negated, compared, number_at, place_in, holds, is_true}
+use Rattle.par_tree.specs.Tree.{ChainOp, Comparison}
+use Rattle.slot_store.specs.Passed.Values.{Outcome, operated, negated, compared, number_at, place_in, holds, is_true}
 use Rattle.slot_store.specs.Rows.{Entry, integer_at, items_at, with_integer_at, with_blocks_at}
 
 -- where the number of an operand is: in a slot, or in the act itself

@@ -1,7 +1,7 @@
 -- The straight code of an expression. It leaves intermediate numbers in temporary slots from k on, which are after the function's own
 -- slots, and its last act alone writes the slot that the number goes to. A number or a slot that is an operand is read in place.
 use Rattle.std.specs.Prelude.{ℕ, suc, ◌<◌, List, [], ◌∷◌, ◌++◌}
-use Rattle.node_table.specs.Table.{Expr, num, var, get, len_of, neg, chain, cmp, Links, last, link}
+use Rattle.slot_store.specs.Passed.Table.{Expr, num, var, get, len_of, neg, chain, cmp, Links, last, link}
 use Rattle.flat_expressions.specs.Acts.{Operand, at_slot, literal, Act, move_to, length_to, element_to, negate_to, operate_to, compare_to, write_at, Test, is_set, compares}
 
 -- where an operand is: itself, if it is a number or a slot; else in the temporary slot k

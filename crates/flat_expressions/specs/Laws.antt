@@ -1,10 +1,10 @@
 -- What a caller may use of the straight code of expressions. The function has k slots, and temporary slots are after them.
 use Rattle.std.specs.Prelude.{◌≡◌, ℕ, suc, ◌<◌, ◌≤◌, List, length}
-use Rattle.depth_first_run.specs.Passed.Tree.{Name}
-use Rattle.depth_first_run.specs.Stores.{Store}
-use Rattle.depth_first_run.specs.Values.{value}
-use Rattle.node_table.specs.Table.{Expr}
-use Rattle.node_table.specs.Reading.{expr_read, FitsExpr}
+use Rattle.par_tree.specs.Tree.{Name}
+use Rattle.slot_store.specs.Passed.Stores.{Store}
+use Rattle.slot_store.specs.Passed.Values.{value}
+use Rattle.slot_store.specs.Passed.Table.{Expr}
+use Rattle.slot_store.specs.Passed.Reading.{expr_read, FitsExpr}
 use Rattle.slot_store.specs.Rows.{Entry}
 use Rattle.slot_store.specs.Agreement.{ShowsStore}
 use Rattle.flat_expressions.specs.Values.{value_in, set_by, put_by}

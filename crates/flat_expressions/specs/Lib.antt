@@ -4,3 +4,4 @@ pub mod Codes
 pub mod Meanings
 pub mod Shown
 pub mod Laws
+pub mod Passed

@@ -2,8 +2,8 @@
 -- slots, the slots of the function become what the definition says, or the same fault comes and they are as they were.
 use Rattle.std.specs.Prelude.{◌≡◌, ℕ, ◌<◌, List, length, ℤ, Result, Ok, Err}
 use Rattle.dag_order.specs.declared.fault.FaultKind.{FaultKind}
-use Rattle.depth_first_run.specs.Values.{Outcome, is_true}
-use Rattle.node_table.specs.Table.{Expr}
+use Rattle.slot_store.specs.Passed.Values.{Outcome, is_true}
+use Rattle.slot_store.specs.Passed.Table.{Expr}
 use Rattle.slot_store.specs.Rows.{Entry, entry_at, integer_at, blocks_at}
 use Rattle.flat_expressions.specs.Acts.{Act, Ran, ends, fails, straight, Test, passes}
 use Rattle.flat_expressions.specs.Values.{value_in}

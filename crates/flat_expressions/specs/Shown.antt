@@ -2,7 +2,7 @@
 use Rattle.std.specs.Prelude.{◌≡◌, ℕ, List, length, map, pos, Result, Ok, Err}
 use Rattle.dag_order.specs.declared.fault.FaultKind.{FaultKind}
 use Rattle.par_tree.specs.View.{chain_op_tree, cmp_op_tree}
-use Rattle.depth_first_run.specs.Values.{Outcome, operated, negated, compared, number_at}
+use Rattle.slot_store.specs.Passed.Values.{Outcome, operated, negated, compared, number_at}
 use Rattle.slot_store.specs.Rows.{Entry, items_at}
 use Rattle.flat_expressions.specs.Acts
 use Rattle.flat_expressions.specs.Acts.{operand_in, Ran, ends, fails}

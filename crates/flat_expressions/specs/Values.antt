@@ -1,8 +1,8 @@
 -- The number of an expression over a row of slots, and what statements without names do to a row.
 use Rattle.std.specs.Prelude.{ℕ, List, length, ℤ, pos, Result, Ok, Err}
 use Rattle.dag_order.specs.declared.fault.FaultKind.{FaultKind}
-use Rattle.depth_first_run.specs.Values.{Outcome, and_then, and_both, operated, negated, compared, number_at, place_in}
-use Rattle.node_table.specs.Table.{Expr, num, var, get, len_of, neg, chain, cmp, Links, last, link}
+use Rattle.slot_store.specs.Passed.Values.{Outcome, and_then, and_both, operated, negated, compared, number_at, place_in}
+use Rattle.slot_store.specs.Passed.Table.{Expr, num, var, get, len_of, neg, chain, cmp, Links, last, link}
 use Rattle.slot_store.specs.Rows.{Entry, integer_at, items_at}
 use Rattle.flat_expressions.specs.Acts.{left_in, written_in}
 

@@ -4,7 +4,7 @@ use Rattle.std.proofs.Common.{Option, Some, slice_get, refl, sym, ap, ◌∙◌,
 use Rattle.std.proofs.lemmas.List.{length-map}
 use Rattle.node_table.specs.Codes.{nodes_of, code_shown}
 use Rattle.node_table.specs.Shown.{node_shown}
-use Rattle.node_table.specs.declared.code.Code.{Code}
+use Rattle.node_table.specs.declared.node_table.NodeTable.{NodeTable}
 use Rattle.std.specs.Prelude.{◌⊎◌}
 use Rattle.std.proofs.lemmas.Bool.{cases_eq}
 use Rattle.node_table.specs.Table.{Table}
@@ -59,7 +59,7 @@ pub two_longer : (xs : List (Option FlatStart)) (x y : Option FlatStart) → len
 two_longer [] x y = refl
 two_longer (z ∷ xs) x y = let rest = two_longer xs x y in omega (arith, rest)
 
-pub all_sized : (code : Code) (n m : ℕ) → m ≡ n * 2 → n ≡ length (nodes_of code) → m ≡ length (code_shown code).nodes * 2
-all_sized code n m twice all =
-    let e : length (code_shown code).nodes ≡ length (nodes_of code) = length-map (nodes_of code) node_shown in
+pub all_sized : (table : NodeTable) (n m : ℕ) → m ≡ n * 2 → n ≡ length (nodes_of table) → m ≡ length (code_shown table).nodes * 2
+all_sized table n m twice all =
+    let e : length (code_shown table).nodes ≡ length (nodes_of table) = length-map (nodes_of table) node_shown in
     omega (arith, twice, all, e)

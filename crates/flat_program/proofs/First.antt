@@ -6,9 +6,9 @@ use Rattle.thread_stack.specs.declared.frame.Frame.{Frame}
 use Rattle.thread_stack.specs.declared.frame.Frame.TheVariants.{Statements}
 use Rattle.thread_stack.specs.declared.list_of.ListOf.{ListOf}
 use Rattle.thread_stack.specs.Lists.{kind_at, numbers_of}
-use Rattle.flat_expressions.specs.Acts.{Act}
-use Rattle.flat_statements.specs.Flat.{Flat, doing, unless, rounds, jumps, leaves, FlatCode, frames_at}
-use Rattle.flat_statements.specs.Codes.{HasActs, HasAct, IsListCode, IsNodeCode, IsKindCode, IsWholeCode, StatementCode}
+use Rattle.flat_run.specs.Passed.Acts.{Act}
+use Rattle.flat_code.specs.Passed.Flat.{Flat, doing, unless, rounds, jumps, leaves, FlatCode, frames_at}
+use Rattle.flat_code.specs.Passed.Codes.{HasActs, HasAct, IsListCode, IsNodeCode, IsKindCode, IsWholeCode, StatementCode}
 use Rattle.flat_code.specs.declared.instruction.Instruction.{Instruction}
 use Rattle.flat_code.specs.declared.instruction.Instruction.TheVariants as instructions
 use Rattle.flat_code.specs.declared.place.Place.{Place}

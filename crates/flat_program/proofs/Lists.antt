@@ -7,10 +7,10 @@ use Rattle.node_table.specs.Table.{Function, Table}
 use Rattle.node_table.specs.Codes.{funcs_of, code_shown}
 use Rattle.node_table.specs.Shown.{func_shown}
 use Rattle.node_table.specs.declared.func_code.FuncCode.{FuncCode}
-use Rattle.node_table.specs.declared.code.Code.{Code}
+use Rattle.node_table.specs.declared.node_table.NodeTable.{NodeTable}
 use Rattle.thread_stack.specs.declared.list_of.ListOf.{ListOf}
 use Rattle.thread_stack.specs.declared.list_of.ListOf.TheVariants.{Body}
-use Rattle.flat_statements.specs.Codes.{IsWholeCode}
+use Rattle.flat_code.specs.Passed.Codes.{IsWholeCode}
 use Rattle.flat_code.specs.Shown.{flat_shown}
 use Rattle.flat_program.specs.declared.flat_list.FlatList.{FlatList}
 use Rattle.flat_program.specs.declared.flat_program.FlatProgram.{FlatProgram}
@@ -84,27 +84,27 @@ some_same : {A : Type 0} (x y : A) → Some x ≡ Some y → x ≡ y
 some_same x y e = cc
 
 -- one function more; and where there are no more
-pub bodies_next : (code : Code) (ls ms : List FlatList) (many : ℕ) (g : FuncCode) → slice_get (funcs_of code) many ≡ Some g
-    → HasBodies (code_shown code) ls many → Grows ls ms → HasCodeIfCan (code_shown code) ms g.slots (Body many)
-    → HasBodies (code_shown code) ms (many + 1)
-bodies_next code ls ms many g there has grown now func f below is = by (cases_lt func many)
+pub bodies_next : (table : NodeTable) (ls ms : List FlatList) (many : ℕ) (g : FuncCode) → slice_get (funcs_of table) many ≡ Some g
+    → HasBodies (code_shown table) ls many → Grows ls ms → HasCodeIfCan (code_shown table) ms g.slots (Body many)
+    → HasBodies (code_shown table) ms (many + 1)
+bodies_next table ls ms many g there has grown now func f below is = by (cases_lt func many)
   where
-    by : (func < many) ⊎ (many ≤ func) → HasCodeIfCan (code_shown code) ms f.slots (Body func)
-    by (inl less) = bodies_more (code_shown code) ls ms many grown has func f less is
+    by : (func < many) ⊎ (many ≤ func) → HasCodeIfCan (code_shown table) ms f.slots (Body func)
+    by (inl less) = bodies_more (code_shown table) ls ms many grown has func f less is
     by (inr more) =
         let e : func ≡ many = omega (arith, below, more) in
-        let here : slice_get (code_shown code).funcs many ≡ Some f = subst (λ (n : ℕ). slice_get (code_shown code).funcs n ≡ Some f) e is in
-        let same : func_shown g ≡ f = some_same (func_shown g) f (sym (get_shown func_shown (funcs_of code) many g there) ∙ here) in
-        subst (λ (h : Function). HasCodeIfCan (code_shown code) ms h.slots (Body func)) same
-        (subst (λ (n : ℕ). HasCodeIfCan (code_shown code) ms g.slots (Body n)) (sym e) now)
+        let here : slice_get (code_shown table).funcs many ≡ Some f = subst (λ (n : ℕ). slice_get (code_shown table).funcs n ≡ Some f) e is in
+        let same : func_shown g ≡ f = some_same (func_shown g) f (sym (get_shown func_shown (funcs_of table) many g there) ∙ here) in
+        subst (λ (h : Function). HasCodeIfCan (code_shown table) ms h.slots (Body func)) same
+        (subst (λ (n : ℕ). HasCodeIfCan (code_shown table) ms g.slots (Body n)) (sym e) now)
 
-pub bodies_all : (code : Code) (ls : List FlatList) (many most : ℕ) → slice_get (funcs_of code) many ≡ None → HasBodies (code_shown code) ls many
-    → HasBodies (code_shown code) ls most
-bodies_all code ls many most none has func f below is = by (cases_lt func many)
+pub bodies_all : (table : NodeTable) (ls : List FlatList) (many most : ℕ) → slice_get (funcs_of table) many ≡ None → HasBodies (code_shown table) ls many
+    → HasBodies (code_shown table) ls most
+bodies_all table ls many most none has func f below is = by (cases_lt func many)
   where
-    by : (func < many) ⊎ (many ≤ func) → HasCodeIfCan (code_shown code) ls f.slots (Body func)
+    by : (func < many) ⊎ (many ≤ func) → HasCodeIfCan (code_shown table) ls f.slots (Body func)
     by (inl less) = has func f less is
-    by (inr more) = absurd (none_after func_shown (funcs_of code) many func f none more is)
+    by (inr more) = absurd (none_after func_shown (funcs_of table) many func f none more is)
 
 -- ---- starts
 
@@ -120,27 +120,27 @@ pub starts_more : (t : Table) (p q : FlatProgram) (many : ℕ) → Grows p.lists
     → HasBodyStarts t p many → HasBodyStarts t q many
 starts_more t p q many grown keeps has func f below there = begin_more t p q f.slots _ grown keeps (has func f below there)
 
-pub starts_next : (code : Code) (p q : FlatProgram) (many : ℕ) (g : FuncCode) → slice_get (funcs_of code) many ≡ Some g
-    → HasBodyStarts (code_shown code) p many → Grows p.lists.items q.lists.items → KeepsStarts p.starts.items q.starts.items
-    → HasStartIfCan (code_shown code) q g.slots (Body many) → HasBodyStarts (code_shown code) q (many + 1)
-starts_next code p q many g there has grown keeps now func f below is = by (cases_lt func many)
+pub starts_next : (table : NodeTable) (p q : FlatProgram) (many : ℕ) (g : FuncCode) → slice_get (funcs_of table) many ≡ Some g
+    → HasBodyStarts (code_shown table) p many → Grows p.lists.items q.lists.items → KeepsStarts p.starts.items q.starts.items
+    → HasStartIfCan (code_shown table) q g.slots (Body many) → HasBodyStarts (code_shown table) q (many + 1)
+starts_next table p q many g there has grown keeps now func f below is = by (cases_lt func many)
   where
-    by : (func < many) ⊎ (many ≤ func) → HasStartIfCan (code_shown code) q f.slots (Body func)
-    by (inl less) = starts_more (code_shown code) p q many grown keeps has func f less is
+    by : (func < many) ⊎ (many ≤ func) → HasStartIfCan (code_shown table) q f.slots (Body func)
+    by (inl less) = starts_more (code_shown table) p q many grown keeps has func f less is
     by (inr more) =
         let e : func ≡ many = omega (arith, below, more) in
-        let here : slice_get (code_shown code).funcs many ≡ Some f = subst (λ (n : ℕ). slice_get (code_shown code).funcs n ≡ Some f) e is in
-        let same : func_shown g ≡ f = some_same (func_shown g) f (sym (get_shown func_shown (funcs_of code) many g there) ∙ here) in
-        subst (λ (h : Function). HasStartIfCan (code_shown code) q h.slots (Body func)) same
-        (subst (λ (n : ℕ). HasStartIfCan (code_shown code) q g.slots (Body n)) (sym e) now)
+        let here : slice_get (code_shown table).funcs many ≡ Some f = subst (λ (n : ℕ). slice_get (code_shown table).funcs n ≡ Some f) e is in
+        let same : func_shown g ≡ f = some_same (func_shown g) f (sym (get_shown func_shown (funcs_of table) many g there) ∙ here) in
+        subst (λ (h : Function). HasStartIfCan (code_shown table) q h.slots (Body func)) same
+        (subst (λ (n : ℕ). HasStartIfCan (code_shown table) q g.slots (Body n)) (sym e) now)
 
-pub starts_all : (code : Code) (p : FlatProgram) (many most : ℕ) → slice_get (funcs_of code) many ≡ None → HasBodyStarts (code_shown code) p many
-    → HasBodyStarts (code_shown code) p most
-starts_all code p many most none has func f below is = by (cases_lt func many)
+pub starts_all : (table : NodeTable) (p : FlatProgram) (many most : ℕ) → slice_get (funcs_of table) many ≡ None → HasBodyStarts (code_shown table) p many
+    → HasBodyStarts (code_shown table) p most
+starts_all table p many most none has func f below is = by (cases_lt func many)
   where
-    by : (func < many) ⊎ (many ≤ func) → HasStartIfCan (code_shown code) p f.slots (Body func)
+    by : (func < many) ⊎ (many ≤ func) → HasStartIfCan (code_shown table) p f.slots (Body func)
     by (inl less) = has func f less is
-    by (inr more) = absurd (none_after func_shown (funcs_of code) many func f none more is)
+    by (inr more) = absurd (none_after func_shown (funcs_of table) many func f none more is)
 
 pub starts_below : (t : Table) (p : FlatProgram) (many most : ℕ) → most ≤ many → HasBodyStarts t p many → HasBodyStarts t p most
 starts_below t p many most low has func f below is = has func f (omega (arith, low, below)) is

@@ -5,7 +5,7 @@ use Rattle.std.specs.Prelude.{reverse, IfSome}
 use Rattle.std.proofs.Math.Seq.{drop-append_seam}
 use Rattle.std.proofs.lemmas.List.{same_from_push, take-append-drop, length-drop, reverse-append, length-reverse}
 use Rattle.thread_stack.specs.declared.frame.Frame.{Frame}
-use Rattle.flat_statements.specs.Flat.{frames_at}
+use Rattle.flat_code.specs.Passed.Flat.{frames_at}
 use Rattle.flat_code.specs.declared.place.Place.{Place}
 use Rattle.flat_code.specs.Shown.{flat_shown}
 use Rattle.flat_program.specs.declared.flat_list.FlatList.{FlatList}

@@ -5,7 +5,7 @@ use Rattle.std.proofs.lemmas.List.Elements.{All-append}
 use Rattle.std.proofs.lemmas.List.{length-map, reverse-reverse}
 use Rattle.node_table.specs.Table.{Table}
 use Rattle.thread_stack.specs.declared.frame.Frame.{Frame}
-use Rattle.flat_statements.specs.Flat.{frames_at}
+use Rattle.flat_code.specs.Passed.Flat.{frames_at}
 use Rattle.flat_code.specs.declared.place.Place.{Place}
 use Rattle.flat_code.specs.Shown.{place_shown, places_shown, what_of, flat_shown}
 use Rattle.flat_code.specs.Starts.{IsWithinStatement}

@@ -4,11 +4,11 @@ use Rattle.std.proofs.lemmas.List.{length-replicate}
 use Rattle.node_table.specs.Table.{Table}
 use Rattle.slot_store.specs.Rows.{Entry, blank, entry_at}
 use Rattle.thread_stack.specs.declared.frame.Frame.{Frame}
-use Rattle.flat_expressions.specs.Meanings.{HasInFront}
-use Rattle.flat_statements.specs.Flat.{FlatCode, frames_at, Point, Came, flat_step, IsEnd}
-use Rattle.flat_statements.specs.Threads.{Standing, standing, thread_step}
-use Rattle.flat_statements.specs.Follows.{StandsFor, IsWithin, Steps, IsSameEnd}
-use Rattle.flat_statements.proofs.Ending.{machine_ends}
+use Rattle.flat_run.specs.Passed.Meanings.{HasInFront}
+use Rattle.flat_code.specs.Passed.Flat.{FlatCode, frames_at, Point, Came, flat_step, IsEnd}
+use Rattle.flat_code.specs.Passed.Threads.{Standing, standing, thread_step}
+use Rattle.flat_code.specs.Passed.Follows.{StandsFor, IsWithin, Steps, IsSameEnd}
+use Rattle.flat_code.proofs.Passed.Ending.{machine_ends}
 use Rattle.flat_code.specs.Shown.{flat_shown}
 use Rattle.flat_run.specs.declared.end.End.{End}
 use Rattle.flat_run.specs.declared.end.End.TheVariants.{Leaves, Faults}

@@ -4,7 +4,7 @@ use Rattle.node_table.specs.Table.{Function, Table}
 use Rattle.thread_stack.specs.declared.list_of.ListOf.{ListOf}
 use Rattle.thread_stack.specs.declared.list_of.ListOf.TheVariants.{Body}
 use Rattle.thread_stack.specs.Lists.{numbers_of}
-use Rattle.flat_statements.specs.Codes.{IsWholeCode}
+use Rattle.flat_code.specs.Passed.Codes.{IsWholeCode}
 use Rattle.flat_code.specs.Fits.{CanBeFlat}
 use Rattle.flat_code.specs.Made.{code_length}
 use Rattle.flat_code.specs.Refused.{most_places}

@@ -1,7 +1,7 @@
 -- Where the frames of a thread are those of a mark.
 use Rattle.std.specs.Prelude.{◌≡◌, ℕ, List, ◌∷◌, ◌++◌, reverse}
 use Rattle.thread_stack.specs.declared.frame.Frame.{Frame}
-use Rattle.flat_statements.specs.Flat.{frames_at}
+use Rattle.flat_code.specs.Passed.Flat.{frames_at}
 use Rattle.flat_code.specs.Shown.{flat_shown}
 use Rattle.flat_program.specs.declared.flat_list.FlatList.{FlatList}
 

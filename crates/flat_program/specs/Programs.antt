@@ -1,8 +1,9 @@
 -- The flat code of a program: of which frames it knows where their code begins.
 use Rattle.std.specs.Prelude.{◌≡◌, ℕ, ◌≤◌, max, List, [], ◌∷◌, length, Option, Some, None, slice_get, All}
 use Rattle.node_table.specs.Table.{Table}
-use Rattle.flat_statements.specs.Flat.{frames_at}
-use Rattle.flat_statements.specs.Forward.{IsForward}
+use Rattle.thread_stack.specs.declared.frame.Frame.{Frame}
+use Rattle.flat_code.specs.Passed.Flat.{frames_at}
+use Rattle.flat_code.specs.Passed.Forward.{IsForward}
 use Rattle.flat_code.specs.declared.place.Place.{Place}
 use Rattle.flat_code.specs.Shown.{flat_shown}
 use Rattle.flat_code.specs.Starts.{Begins, OthersBegin}
@@ -15,9 +16,13 @@ abbrev pub deepest_mark : List Place → ℕ
 deepest_mark [] = 0
 deepest_mark (p ∷ ps) = max (length p.mark.items) (deepest_mark ps)
 
+-- the frames of the mark of a place, the next one first
+abbrev pub mark_at : FlatList → ℕ → List Frame
+mark_at l place = frames_at (flat_shown l.places.items) place
+
 -- no mark of a list has more frames than it says
 abbrev pub HasDeepest : FlatList → Type 0
-HasDeepest l = (place : ℕ) → length (frames_at (flat_shown l.places.items) place) ≤ l.deepest
+HasDeepest l = (place : ℕ) → length (mark_at l place) ≤ l.deepest
 
 -- what is made of a list of the table: code that goes forward, for rows that have the slots of the function in front
 pub record IsFlatList (t : Table) (l : FlatList) : Type 0 where

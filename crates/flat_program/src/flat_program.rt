@@ -6,7 +6,7 @@ ghost use Rattle.flat_program.specs.Entries.{IsNoted, IsFound};
 use crate::flat_list::FlatList;
 use crate::flat_start::FlatStart;
 use crate::starting::entry_of;
-use node_table::Code;
+use node_table::NodeTable;
 use thread_stack::Frame;
 
 /// The flat code of a program, with a start for each frame that has one.
@@ -23,12 +23,12 @@ impl FlatProgram {
 
     /// Where a frame begins, if its statement has flat code.
     #[inline(always)]
-    pub fn start(&self, code: &Code, frame: Frame) -> Option<FlatStart>
-        requires { IsFlatProgram (code_shown code.now) self.now }
-        ensures start { StartsIn (code_shown code.now) self.now.lists.items result }
-        ensures found { IsNoted (code_shown code.now) self.now.starts.items frame → IsFound result }
+    pub fn start(&self, table: &NodeTable, frame: Frame) -> Option<FlatStart>
+        requires { IsFlatProgram (code_shown table.now) self.now }
+        ensures start { StartsIn (code_shown table.now) self.now.lists.items result }
+        ensures found { IsNoted (code_shown table.now) self.now.starts.items frame → IsFound result }
     {
-        let Some(entry) = entry_of(code, frame) else {
+        let Some(entry) = entry_of(table, frame) else {
             return None;
         };
         match self.starts.get(entry) {

@@ -41,6 +41,7 @@ mod owners;
 mod running;
 mod starting;
 
+pub use flat_code::Instruction;
 pub use flat_list::FlatList;
 pub use flat_program::FlatProgram;
 pub use flat_start::FlatStart;

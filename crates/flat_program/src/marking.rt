@@ -3,7 +3,7 @@
 ghost use Rattle.std.specs.Prelude.{◌≡◌, ◌+◌, ◌≤◌, ◌↔◌, List, [], ◌∷◌, ◌++◌, length, take, reverse, None, IsTrue, IfSome};
 ghost use Rattle.std.specs.Prelude.{vec_len, vec_capacity};
 ghost use Rattle.thread_stack.specs.declared.frame.Frame as frames;
-ghost use Rattle.flat_statements.specs.Flat.{frames_at};
+ghost use Rattle.flat_code.specs.Passed.Flat.{frames_at};
 ghost use Rattle.flat_code.specs.Shown.{flat_shown};
 ghost use Rattle.flat_program.specs.Programs.{deepest_mark};
 ghost use Rattle.flat_program.specs.Marking.{IsMarkOn};

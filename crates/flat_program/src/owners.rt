@@ -1,6 +1,6 @@
 //! How many slots the function has in which a node is.
 
-use node_table::{Code, NodeKind};
+use node_table::{NodeKind, NodeTable};
 use std::alloc::{AllocError, Global};
 use thread_stack::{ListOf, numbers};
 
@@ -9,30 +9,30 @@ use thread_stack::{ListOf, numbers};
 /// # Errors
 ///
 /// There is not enough memory.
-pub(crate) fn owners(alloc: Global, code: &Code) -> Result<Vec<u16>, AllocError> {
+pub(crate) fn owners(alloc: Global, table: &NodeTable) -> Result<Vec<u16>, AllocError> {
     let mut slots = Vec::new(alloc);
-    for _ in 0..code.len() {
+    for _ in 0..table.len() {
         slots.push(0u16)?;
     }
     for func in 0..u32::MAX {
-        let Some(function) = code.func(func) else {
+        let Some(function) = table.func(func) else {
             break;
         };
         set_all(
             &mut slots,
-            numbers(code, ListOf::Body(func)),
+            numbers(table, ListOf::Body(func)),
             function.slots,
         );
     }
-    for number in 0..code.len() {
-        pass_on(&mut slots, code, number);
+    for number in 0..table.len() {
+        pass_on(&mut slots, table, number);
     }
     Ok(slots)
 }
 
 /// The nodes inside a node are in the same function; they have greater numbers.
-fn pass_on(slots: &mut Vec<u16>, code: &Code, number: u32) {
-    let Some(node) = code.node(number) else {
+fn pass_on(slots: &mut Vec<u16>, table: &NodeTable, number: u32) {
+    let Some(node) = table.node(number) else {
         return;
     };
     let Some(own) = slots.get(number as usize).copied() else {

@@ -3,7 +3,7 @@
 ghost use Rattle.std.specs.Prelude.{◌≡◌, ◌≤◌, length, IfOk, OnErr};
 ghost use Rattle.node_table.specs.Table.{Table};
 ghost use Rattle.slot_store.specs.Shown.{slots_shown};
-ghost use Rattle.flat_statements.specs.Forward.{IsForward};
+ghost use Rattle.flat_code.specs.Passed.Forward.{IsForward};
 ghost use Rattle.flat_code.specs.Shown.{flat_shown};
 ghost use Rattle.flat_program.specs.Programs.{BeginsAt};
 ghost use Rattle.flat_program.specs.Running.{RunsThread};

@@ -12,17 +12,17 @@ use crate::flat_list::FlatList;
 use crate::flat_start::FlatStart;
 use crate::marking::are_same_frames;
 use flat_code::{Instruction, Place};
-use node_table::Code;
+use node_table::NodeTable;
 use thread_stack::{Frame, numbers};
 
 /// The number of a frame's entry in the table of starts.
 #[inline(always)]
-pub(crate) fn entry_of(code: &Code, frame: Frame) -> Option<usize>
-    ensures { result ≡ entry_of_frame (code_shown code.now) frame }
+pub(crate) fn entry_of(table: &NodeTable, frame: Frame) -> Option<usize>
+    ensures { result ≡ entry_of_frame (code_shown table.now) frame }
 {
     match frame {
         Frame::Statements { list, next } => {
-            let number = numbers(code, list).get(next)?;
+            let number = numbers(table, list).get(next)?;
             Some(*number as usize * 2)
         }
         Frame::Again(number) => Some(number as usize * 2 + 1),
@@ -31,14 +31,14 @@ pub(crate) fn entry_of(code: &Code, frame: Frame) -> Option<usize>
 }
 
 /// Notes where a frame begins.
-fn note(starts: &mut Vec<Option<FlatStart>>, code: &Code, frame: Frame, start: FlatStart)
-    ensures starts { (ls : List lists.FlatList) → StartsIn (code_shown code.now) ls (Some start)
-        → All (StartsIn (code_shown code.now) ls) starts.old.items → All (StartsIn (code_shown code.now) ls) starts.new.items }
+fn note(starts: &mut Vec<Option<FlatStart>>, table: &NodeTable, frame: Frame, start: FlatStart)
+    ensures starts { (ls : List lists.FlatList) → StartsIn (code_shown table.now) ls (Some start)
+        → All (StartsIn (code_shown table.now) ls) starts.old.items → All (StartsIn (code_shown table.now) ls) starts.new.items }
     ensures keeps { KeepsStarts starts.old.items starts.new.items }
-    ensures has { (entry : ℕ) → entry_of_frame (code_shown code.now) frame ≡ Some entry → entry < length starts.old.items
+    ensures has { (entry : ℕ) → entry_of_frame (code_shown table.now) frame ≡ Some entry → entry < length starts.old.items
         → HasStart starts.new.items entry }
 {
-    let Some(entry) = entry_of(code, frame) else {
+    let Some(entry) = entry_of(table, frame) else {
         return;
     };
     if entry < starts.len() {
@@ -66,16 +66,16 @@ fn is_first(places: &[Place], at: usize) -> bool
 /// Notes where the frame of a place begins, if it begins there. A jump is left out, since it leads to where the same frames begin.
 fn note_at(
     starts: &mut Vec<Option<FlatStart>>,
-    code: &Code,
+    table: &NodeTable,
     flat: &FlatList,
     list: u32,
     place: usize,
 )
-    requires { IsFlatList (code_shown code.now) flat.now }
+    requires { IsFlatList (code_shown table.now) flat.now }
     ensures starts { (ls : List lists.FlatList) → slice_get ls list ≡ Some flat.now
-        → All (StartsIn (code_shown code.now) ls) starts.old.items → All (StartsIn (code_shown code.now) ls) starts.new.items }
+        → All (StartsIn (code_shown table.now) ls) starts.old.items → All (StartsIn (code_shown table.now) ls) starts.new.items }
     ensures keeps { KeepsStarts starts.old.items starts.new.items }
-    ensures has { place ≡ 0 → (entry : ℕ) → BeginsWith (code_shown code.now) flat.now entry → entry < length starts.old.items
+    ensures has { place ≡ 0 → (entry : ℕ) → BeginsWith (code_shown table.now) flat.now entry → entry < length starts.old.items
         → HasStart starts.new.items entry }
 {
     let Some(here) = flat.places.get(place) else {
@@ -88,20 +88,25 @@ fn note_at(
         return;
     }
     if let Some(frame) = here.mark.last() {
-        note(starts, code, *frame, FlatStart { list, place });
+        note(starts, table, *frame, FlatStart { list, place });
     }
 }
 
 /// Notes where the frames of a list begin.
-pub(crate) fn note_all(starts: &mut Vec<Option<FlatStart>>, code: &Code, flat: &FlatList, list: u32)
-    requires { IsFlatList (code_shown code.now) flat.now }
+pub(crate) fn note_all(
+    starts: &mut Vec<Option<FlatStart>>,
+    table: &NodeTable,
+    flat: &FlatList,
+    list: u32,
+)
+    requires { IsFlatList (code_shown table.now) flat.now }
     ensures starts { (ls : List lists.FlatList) → slice_get ls list ≡ Some flat.now
-        → All (StartsIn (code_shown code.now) ls) starts.old.items → All (StartsIn (code_shown code.now) ls) starts.new.items }
+        → All (StartsIn (code_shown table.now) ls) starts.old.items → All (StartsIn (code_shown table.now) ls) starts.new.items }
     ensures keeps { KeepsStarts starts.old.items starts.new.items }
-    ensures has { (entry : ℕ) → BeginsWith (code_shown code.now) flat.now entry → entry < length starts.old.items
+    ensures has { (entry : ℕ) → BeginsWith (code_shown table.now) flat.now entry → entry < length starts.old.items
         → HasStart starts.new.items entry }
 {
     for place in 0..flat.places.len() {
-        note_at(starts, code, flat, list, place);
+        note_at(starts, table, flat, list, place);
     }
 }

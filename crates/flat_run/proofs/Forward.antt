@@ -3,9 +3,9 @@ use Rattle.std.proofs.Common.{◌≡◌, ℕ, zero, suc, ◌+◌, ◌*◌, ◌-�
 use Rattle.dag_order.specs.declared.fault.FaultKind.{FaultKind}
 use Rattle.slot_store.specs.Rows.{Entry}
 use Rattle.flat_expressions.specs.Acts.{act_on, passes}
-use Rattle.flat_statements.specs.Flat.{Flat, doing, unless, rounds, jumps, leaves, FlatCode, Point, goes_to, acted, at_place, chosen, turned, rounded, step_at, flat_step, Runs, arrived, further}
-use Rattle.flat_statements.specs.Forward.{GoesForward}
-use Rattle.flat_statements.proofs.Running.{runs_on}
+use Rattle.flat_code.specs.Passed.Flat.{Flat, doing, unless, rounds, jumps, leaves, FlatCode, Point, goes_to, acted, at_place, chosen, turned, rounded, step_at, flat_step, Runs, arrived, further}
+use Rattle.flat_code.specs.Passed.Forward.{GoesForward}
+use Rattle.flat_code.proofs.Passed.Running.{runs_on}
 use Rattle.flat_code.specs.declared.place.Place.{Place}
 use Rattle.flat_code.specs.Shown.{instruction_shown, places_shown, what_of}
 

@@ -1,7 +1,7 @@
 -- The number of a comparison, as a condition.
 use Rattle.std.proofs.Common.{◌≡◌, Bool, true, false, ℤ, Ok, Err, refl, sym, ap, ◌∙◌}
-use Rattle.depth_first_run.specs.Passed.Tree.{Comparison}
-use Rattle.depth_first_run.specs.Values.{Outcome, compared, holds, truth, is_true}
+use Rattle.par_tree.specs.Tree.{Comparison}
+use Rattle.slot_store.specs.Passed.Values.{Outcome, compared, holds, truth, is_true}
 
 truth_true : (b : Bool) → is_true (truth b) ≡ b
 truth_true true = refl

@@ -1,7 +1,7 @@
 -- What running flat code is, as values of the Rust types.
 use Rattle.std.specs.Prelude.{◌≡◌, ℕ, List}
 use Rattle.slot_store.specs.Rows.{Entry}
-use Rattle.flat_statements.specs.Flat.{FlatCode, Point, Came, goes_to, meets, stops, flat_step, Runs}
+use Rattle.flat_code.specs.Passed.Flat.{FlatCode, Point, Came, goes_to, meets, stops, flat_step, Runs}
 use Rattle.flat_run.specs.declared.next.Next.{Next}
 use Rattle.flat_run.specs.declared.next.Next.TheVariants.{Goes, Ends}
 use Rattle.flat_run.specs.declared.end.End.{End}

@@ -1,7 +1,7 @@
 //! Flat code, run from a place on.
 
 ghost use Rattle.slot_store.specs.Shown.{slots_shown};
-ghost use Rattle.flat_statements.specs.Forward.{IsForward};
+ghost use Rattle.flat_code.specs.Passed.Forward.{IsForward};
 ghost use Rattle.flat_code.specs.Shown.{flat_shown};
 ghost use Rattle.flat_run.specs.Ran.{at_point, RanTo};
 

@@ -2,11 +2,11 @@
 
 ghost use Rattle.std.specs.Prelude.{◌≡◌, ◌+◌, ◌<◌, ◌^◌, Some, Ok};
 ghost use Rattle.par_tree.specs.View.{cmp_op_tree};
-ghost use Rattle.depth_first_run.specs.Values.{compared};
+ghost use Rattle.slot_store.specs.Passed.Values.{compared};
 ghost use Rattle.slot_store.specs.Shown.{slots_shown};
 ghost use Rattle.flat_expressions.specs.Acts.{operand_in, passes};
 ghost use Rattle.flat_expressions.specs.Shown.{operand_shown};
-ghost use Rattle.flat_statements.specs.Flat.{step_at};
+ghost use Rattle.flat_code.specs.Passed.Flat.{step_at};
 ghost use Rattle.flat_code.specs.Shown.{test_shown, instruction_shown};
 ghost use Rattle.flat_run.specs.Ran.{at_point, came_by, StaysBy};
 

@@ -1,6 +1,6 @@
 -- Where the machine has gone on until it stopped, so has the thread.
 use Rattle.std.proofs.Common.{◌≡◌, ℕ, zero, suc, ◌≤◌, refl, sym, ap, ◌∙◌, subst, arith}
-use Rattle.node_table.specs.Table.{Table}
+use Rattle.thread_stack.specs.Passed.Table.{Table}
 use Rattle.flat_statements.specs.Flat.{FlatCode, Point, Came, goes_to, meets, stops, IsEnd, flat_step, Runs, arrived, further}
 use Rattle.flat_statements.specs.Threads.{Standing, thread_step}
 use Rattle.flat_statements.specs.Follows.{StandsFor, IsWithin, Follows, stays, onward, IsSameEnd, EndsWithin}

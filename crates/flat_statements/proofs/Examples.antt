@@ -2,8 +2,8 @@
 --
 --     while x { if y { while z { z = 0; y = 0; } } else { x = 0; } }
 use Rattle.std.proofs.Common.{◌≡◌, ℕ, zero, suc, ◌<◌, Bool, true, false, List, [], ◌∷◌, ℤ, pos, None, refl, sym, ap, ◌∙◌, arith}
-use Rattle.node_table.specs.Table.{num, var, Kind, assign_node, if_node, while_node, Node, Table}
-use Rattle.slot_store.specs.Rows.{Entry, blank}
+use Rattle.thread_stack.specs.Passed.Table.{num, var, Kind, assign_node, if_node, while_node, Node, Table}
+use Rattle.flat_expressions.specs.Passed.Rows.{Entry, blank}
 use Rattle.thread_stack.specs.declared.frame.Frame.{Frame}
 use Rattle.thread_stack.specs.declared.frame.Frame.TheVariants.{Statements, Again}
 use Rattle.thread_stack.specs.declared.list_of.ListOf.{ListOf}

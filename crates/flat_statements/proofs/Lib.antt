@@ -7,3 +7,4 @@ pub mod Behind
 pub mod Ways
 pub mod Turns
 mod Examples
+pub mod Passed

@@ -1,7 +1,7 @@
 -- The machine runs through straight code and jumps.
 use Rattle.std.proofs.Common.{◌≡◌, ℕ, zero, suc, ◌<◌, ◌≤◌, List, [], ◌∷◌, Some, Result, Ok, Err, refl, ap, ◌∙◌, subst, arith}
-use Rattle.dag_order.specs.declared.fault.FaultKind.{FaultKind}
-use Rattle.slot_store.specs.Rows.{Entry}
+use Rattle.flat_expressions.specs.Passed.FaultKind.{FaultKind}
+use Rattle.flat_expressions.specs.Passed.Rows.{Entry}
 use Rattle.thread_stack.specs.declared.frame.Frame.{Frame}
 use Rattle.flat_expressions.specs.Acts.{Act, act_on, Ran, ends, fails, next_act, straight}
 use Rattle.flat_statements.specs.Flat.{Flat, doing, jumps, FlatCode, frames_at, Point, goes_to, meets, acted, step_at, flat_step, Runs, arrived, further}

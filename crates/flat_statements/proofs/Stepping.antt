@@ -3,26 +3,26 @@ use Rattle.std.proofs.Common.{inl, inr, ◌≡◌, ℕ, zero, suc, ◌+◌, ◌<
 use Rattle.std.proofs.Common.{None, Ok, Err, refl, sym, ap, ◌∙◌, subst, arith, rules, append-nil}
 use Rattle.std.specs.Prelude.{◌⊎◌, nat_le, slice_set}
 use Rattle.std.proofs.lemmas.Bool.{cases_eq}
-use Rattle.depth_first_run.specs.Passed.Tree
-use Rattle.depth_first_run.specs.Passed.Tree.{Name, Func, Stmt, let_stmt, assign_stmt, put_stmt, alloc_stmt, free_stmt, if_stmt, while_stmt}
-use Rattle.depth_first_run.specs.Passed.Tree.{call_stmt, print_stmt, par_stmt, split_stmt, done, step}
-use Rattle.depth_first_run.specs.Stores.{Store, with_integer, write_block}
-use Rattle.depth_first_run.specs.Values.{Outcome, value, is_true, place_in}
-use Rattle.depth_first_run.specs.States.{Setting, State, began, with_item, with_number, with_fault}
-use Rattle.depth_first_run.specs.Run.{set_integer, put_in_place, put_number, put_value}
-use Rattle.depth_first_run.specs.Middle as middles
-use Rattle.depth_first_run.specs.Middle.{does, statements, Middle, middle, before_all, step_with_number, step_branch, step_if, step_turn, step_round}
-use Rattle.depth_first_run.specs.Middle.{step_while, step_statement, step_first, step_frame}
-use Rattle.node_table.specs.Names.{name_at, slot_names, IsSlot}
-use Rattle.node_table.specs.Reading.{IsExpr}
-use Rattle.node_table.specs.Table as tables
-use Rattle.node_table.specs.Table.{Kind, let_node, assign_node, put_node, alloc_node, free_node, if_node, while_node, call_node, print_node}
-use Rattle.node_table.specs.Table.{both_node, split_node, Table}
-use Rattle.node_table.specs.Programs.{IsStmt, function_names}
-use Rattle.slot_store.specs.Rows.{Entry, entry_at, blocks_at, items_at, with_integer_at, with_blocks_at}
-use Rattle.slot_store.specs.Agreement.{ShowsStore}
-use Rattle.slot_store.proofs.Rows.{same_entry, other_entry, one_block}
-use Rattle.slot_store.proofs.Agreement.{row_length, items_are, shows_integer, shows_write}
+use Rattle.flat_expressions.specs.Passed.Tree
+use Rattle.flat_expressions.specs.Passed.Tree.{Name, Func, Stmt, let_stmt, assign_stmt, put_stmt, alloc_stmt, free_stmt, if_stmt, while_stmt}
+use Rattle.flat_expressions.specs.Passed.Tree.{call_stmt, print_stmt, par_stmt, split_stmt, done, step}
+use Rattle.thread_stack.specs.Passed.Stores.{Store, with_integer, write_block}
+use Rattle.thread_stack.specs.Passed.Values.{Outcome, value, is_true, place_in}
+use Rattle.thread_stack.specs.Passed.States.{Setting, State, began, with_item, with_number, with_fault}
+use Rattle.thread_stack.specs.Passed.Run.{set_integer, put_in_place, put_number, put_value}
+use Rattle.thread_stack.specs.Passed.Middle as middles
+use Rattle.thread_stack.specs.Passed.Middle.{does, statements, Middle, middle, before_all, step_with_number, step_branch, step_if, step_turn, step_round}
+use Rattle.thread_stack.specs.Passed.Middle.{step_while, step_statement, step_first, step_frame}
+use Rattle.thread_stack.specs.Passed.Names.{name_at, slot_names, IsSlot}
+use Rattle.thread_stack.specs.Passed.Reading.{IsExpr}
+use Rattle.thread_stack.specs.Passed.Table as tables
+use Rattle.thread_stack.specs.Passed.Table.{Kind, let_node, assign_node, put_node, alloc_node, free_node, if_node, while_node, call_node, print_node}
+use Rattle.thread_stack.specs.Passed.Table.{both_node, split_node, Table}
+use Rattle.thread_stack.specs.Passed.Programs.{IsStmt, function_names}
+use Rattle.flat_expressions.specs.Passed.Rows.{Entry, entry_at, blocks_at, items_at, with_integer_at, with_blocks_at}
+use Rattle.flat_expressions.specs.Passed.Agreement.{ShowsStore}
+use Rattle.flat_expressions.proofs.Passed.Rows.{same_entry, other_entry, one_block}
+use Rattle.flat_expressions.proofs.Passed.Agreement.{row_length, items_are, shows_integer, shows_write}
 use Rattle.thread_stack.specs.declared.frame.Frame.{Frame}
 use Rattle.thread_stack.specs.declared.frame.Frame.TheVariants.{Statements, Again, Tree as DummyTree, Answers, Rejoins, AnswersMain, Allocates, Joins}
 use Rattle.thread_stack.specs.declared.list_of.ListOf.{ListOf}

@@ -1,13 +1,13 @@
 -- The steps of a thread over slots are steps of the depth-first run.
 use Rattle.std.proofs.Common.{◌≡◌, ℕ, List, [], ◌∷◌, ◌++◌, refl, sym, ap, ◌∙◌, subst, append_assoc, append-nil}
-use Rattle.depth_first_run.specs.Passed.Tree.{Func}
-use Rattle.depth_first_run.specs.States.{Setting, State, Item, began, acted, printed, failed}
-use Rattle.depth_first_run.specs.Run.{actions_of}
-use Rattle.depth_first_run.specs.Middle as middles
-use Rattle.depth_first_run.specs.Middle.{Middle, middle, step_frame}
-use Rattle.node_table.specs.Names.{slot_names}
-use Rattle.node_table.specs.Table.{Table}
-use Rattle.slot_store.specs.Rows.{Entry}
+use Rattle.flat_expressions.specs.Passed.Tree.{Func}
+use Rattle.thread_stack.specs.Passed.States.{Setting, State, Item, began, acted, printed, failed}
+use Rattle.thread_stack.specs.Passed.Run.{actions_of}
+use Rattle.thread_stack.specs.Passed.Middle as middles
+use Rattle.thread_stack.specs.Passed.Middle.{Middle, middle, step_frame}
+use Rattle.thread_stack.specs.Passed.Names.{slot_names}
+use Rattle.thread_stack.specs.Passed.Table.{Table}
+use Rattle.flat_expressions.specs.Passed.Rows.{Entry}
 use Rattle.thread_stack.specs.declared.frame.Frame.{Frame}
 use Rattle.thread_stack.specs.Frames.{AreFrames}
 use Rattle.flat_statements.specs.Flat.{Came, goes_to}

@@ -1,9 +1,9 @@
 -- Flat code: the statements of functions as acts one after another, with jumps in place of lists in lists; and one step of a machine that
 -- runs it.
 use Rattle.std.specs.Prelude.{◌≡◌, ℕ, zero, suc, Bool, true, false, List, [], Option, Some, None, get_or, slice_get, Result, Ok, Err}
-use Rattle.dag_order.specs.declared.fault.FaultKind.{FaultKind}
-use Rattle.dag_order.specs.declared.fault.FaultKind.TheVariants as faults
-use Rattle.slot_store.specs.Rows.{Entry}
+use Rattle.flat_expressions.specs.Passed.FaultKind.{FaultKind}
+use Rattle.flat_expressions.specs.Passed.FaultKindVariants as faults
+use Rattle.flat_expressions.specs.Passed.Rows.{Entry}
 use Rattle.thread_stack.specs.declared.frame.Frame.{Frame}
 use Rattle.flat_expressions.specs.Acts.{Act, act_on, Test, passes}
 

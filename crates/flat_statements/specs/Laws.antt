@@ -1,12 +1,12 @@
 -- What a caller may use of flat code.
 use Rattle.std.specs.Prelude.{◌≡◌, ℕ, suc, ◌+◌, List, [], ◌∷◌, ◌++◌}
-use Rattle.depth_first_run.specs.Passed.Tree.{Func}
-use Rattle.depth_first_run.specs.States.{Setting, State}
-use Rattle.depth_first_run.specs.Middle as middles
-use Rattle.depth_first_run.specs.Middle.{Middle, step_frame}
-use Rattle.node_table.specs.Names.{slot_names}
-use Rattle.node_table.specs.Table.{Table}
-use Rattle.slot_store.specs.Rows.{Entry}
+use Rattle.flat_expressions.specs.Passed.Tree.{Func}
+use Rattle.thread_stack.specs.Passed.States.{Setting, State}
+use Rattle.thread_stack.specs.Passed.Middle as middles
+use Rattle.thread_stack.specs.Passed.Middle.{Middle, step_frame}
+use Rattle.thread_stack.specs.Passed.Names.{slot_names}
+use Rattle.thread_stack.specs.Passed.Table.{Table}
+use Rattle.flat_expressions.specs.Passed.Rows.{Entry}
 use Rattle.thread_stack.specs.declared.frame.Frame.{Frame}
 use Rattle.thread_stack.specs.declared.frame.Frame.TheVariants.{Statements}
 use Rattle.thread_stack.specs.declared.list_of.ListOf.{ListOf}

@@ -5,3 +5,4 @@ pub mod Codes
 pub mod Follows
 pub mod Runs
 pub mod Laws
+pub mod Passed

@@ -1,13 +1,13 @@
 -- How a step of a thread over slots is a step of the depth-first run.
 use Rattle.std.specs.Prelude.{◌≡◌, ℕ, ◌≤◌, false, List, [], ◌∷◌, ◌++◌, length}
-use Rattle.depth_first_run.specs.Passed.Tree.{Name, Func}
-use Rattle.depth_first_run.specs.States.{Setting, State, Item, began, with_item, with_fault}
-use Rattle.depth_first_run.specs.Run.{actions_of}
-use Rattle.depth_first_run.specs.Middle as middles
-use Rattle.depth_first_run.specs.Middle.{Middle, step_frame}
-use Rattle.node_table.specs.Table.{Table}
-use Rattle.slot_store.specs.Rows.{Entry, blocks_at}
-use Rattle.slot_store.specs.Agreement.{ShowsStore}
+use Rattle.flat_expressions.specs.Passed.Tree.{Name, Func}
+use Rattle.thread_stack.specs.Passed.States.{Setting, State, Item, began, with_item, with_fault}
+use Rattle.thread_stack.specs.Passed.Run.{actions_of}
+use Rattle.thread_stack.specs.Passed.Middle as middles
+use Rattle.thread_stack.specs.Passed.Middle.{Middle, step_frame}
+use Rattle.thread_stack.specs.Passed.Table.{Table}
+use Rattle.flat_expressions.specs.Passed.Rows.{Entry, blocks_at}
+use Rattle.flat_expressions.specs.Passed.Agreement.{ShowsStore}
 use Rattle.thread_stack.specs.declared.frame.Frame.{Frame}
 use Rattle.thread_stack.specs.Frames.{AreFrames, names_now}
 use Rattle.flat_statements.specs.Flat.{Came, goes_to, meets, stops}

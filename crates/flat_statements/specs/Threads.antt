@@ -1,11 +1,11 @@
 -- One step of a thread over slots, by its next frame: the frames that it has after the step, its row and its turns. Statements that act,
 -- call, print or split are not done here.
 use Rattle.std.specs.Prelude.{◌≡◌, ℕ, zero, suc, ◌+◌, Bool, true, false, List, [], ◌∷◌, ◌++◌, Option, Some, None, Result, Ok, Err}
-use Rattle.dag_order.specs.declared.fault.FaultKind.{FaultKind}
-use Rattle.dag_order.specs.declared.fault.FaultKind.TheVariants as faults
-use Rattle.depth_first_run.specs.Values.{Outcome, is_true}
-use Rattle.node_table.specs.Table.{Kind, let_node, assign_node, put_node, alloc_node, free_node, if_node, while_node, call_node, print_node, both_node, split_node, Table}
-use Rattle.slot_store.specs.Rows.{Entry}
+use Rattle.flat_expressions.specs.Passed.FaultKind.{FaultKind}
+use Rattle.flat_expressions.specs.Passed.FaultKindVariants as faults
+use Rattle.thread_stack.specs.Passed.Values.{Outcome, is_true}
+use Rattle.thread_stack.specs.Passed.Table.{Kind, let_node, assign_node, put_node, alloc_node, free_node, if_node, while_node, call_node, print_node, both_node, split_node, Table}
+use Rattle.flat_expressions.specs.Passed.Rows.{Entry}
 use Rattle.thread_stack.specs.declared.frame.Frame.{Frame}
 use Rattle.thread_stack.specs.declared.frame.Frame.TheVariants.{Statements, Again, Tree, Answers, Rejoins, AnswersMain, Allocates, Joins}
 use Rattle.thread_stack.specs.declared.list_of.ListOf.{ListOf}

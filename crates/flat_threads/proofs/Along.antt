@@ -2,22 +2,22 @@
 use Rattle.std.proofs.Common.{inl, inr, ◌≡◌, ℕ, suc, List, [], ◌∷◌, ◌++◌, refl, sym, ap, ◌∙◌, subst, append_assoc, append-nil}
 use Rattle.std.specs.Prelude.{◌⊎◌}
 use Rattle.std.proofs.lemmas.List.{append_cancel_left}
-use Rattle.depth_first_run.specs.Passed.Actions as actions
-use Rattle.depth_first_run.specs.Passed.Actions.{Action, record_words}
-use Rattle.depth_first_run.specs.Passed.Tree.{Func, Body}
-use Rattle.depth_first_run.specs.States.{Setting, State, Item, began, acted, printed, failed, next_action}
-use Rattle.depth_first_run.specs.Middle as middles
-use Rattle.depth_first_run.specs.Middle.{does, statements, Middle, answers, rejoins, answers_main, allocates, awaits, joins, step_frame}
-use Rattle.thread_points.specs.Points.{Each, IsOwn, IsPlain, step_of, marked, mark_of, StepsAlone, StepForks}
-use Rattle.thread_points.specs.Threads.{IsThread, open_children}
-use Rattle.thread_points.proofs.Putting.{frame_put}
-use Rattle.thread_points.proofs.Alone.{alone_or_forks}
-use Rattle.thread_points.proofs.Telling.{thread_steps}
-use Rattle.node_table.specs.Names.{slot_names}
-use Rattle.node_table.specs.Table.{Table}
-use Rattle.slot_store.specs.Rows.{Entry}
-use Rattle.thread_stack.specs.declared.frame.Frame.{Frame}
-use Rattle.thread_stack.specs.Frames.{AreFrames}
+use Rattle.depth_first_list.specs.Actions as actions
+use Rattle.depth_first_list.specs.Actions.{Action, record_words}
+use Rattle.par_tree.specs.Tree.{Func, Body}
+use Rattle.thread_state.specs.Passed.States.{Setting, State, Item, began, acted, printed, failed, next_action}
+use Rattle.thread_state.specs.Passed.Middle as middles
+use Rattle.thread_state.specs.Passed.Middle.{does, statements, Middle, answers, rejoins, answers_main, allocates, awaits, joins, step_frame}
+use Rattle.thread_output.specs.Passed.Points.{Each, IsOwn, IsPlain, step_of, marked, mark_of, StepsAlone, StepForks}
+use Rattle.thread_output.specs.Passed.Threads.{IsThread, open_children}
+use Rattle.thread_output.proofs.Passed.Putting.{frame_put}
+use Rattle.thread_output.proofs.Passed.Alone.{alone_or_forks}
+use Rattle.thread_output.proofs.Passed.Telling.{thread_steps}
+use Rattle.thread_state.specs.Passed.Names.{slot_names}
+use Rattle.thread_state.specs.Passed.Table.{Table}
+use Rattle.thread_state.specs.Passed.Rows.{Entry}
+use Rattle.flat_statements.specs.Passed.Frame.{Frame}
+use Rattle.flat_statements.specs.Passed.Frames.{AreFrames}
 use Rattle.flat_statements.specs.Flat.{Came, goes_to}
 use Rattle.flat_statements.specs.Threads.{Standing, standing, thread_step, with_behind}
 use Rattle.flat_statements.specs.Follows.{Steps, stays, onward}

@@ -1,17 +1,17 @@
 -- Between a thread with its rows and the standing of a thread over slots.
 use Rattle.std.proofs.Common.{◌≡◌, Bool, false, List, [], ◌∷◌, ◌++◌, map, ℤ, refl, sym, ap, ◌∙◌, subst, arith}
-use Rattle.depth_first_run.specs.Passed.Tree.{Name, Func}
-use Rattle.depth_first_run.specs.States.{Setting, State, Item, began, acted, printed, failed}
-use Rattle.depth_first_run.specs.Run.{lines_of, first_fault}
-use Rattle.depth_first_run.specs.Middle as middles
-use Rattle.thread_points.specs.Threads.{IsThread}
-use Rattle.node_table.specs.Names.{slot_names}
-use Rattle.node_table.specs.Table.{Table}
-use Rattle.slot_store.specs.Rows.{row_words}
-use Rattle.slot_store.specs.Shown.{slots_shown}
-use Rattle.slot_store.proofs.Rows.{block_or_none}
-use Rattle.thread_stack.specs.declared.frame.Frame.{Frame}
-use Rattle.thread_stack.specs.Frames.{AreFrames}
+use Rattle.par_tree.specs.Tree.{Name, Func}
+use Rattle.thread_state.specs.Passed.States.{Setting, State, Item, began, acted, printed, failed}
+use Rattle.thread_state.specs.Passed.Run.{lines_of, first_fault}
+use Rattle.thread_state.specs.Passed.Middle as middles
+use Rattle.thread_output.specs.Passed.Threads.{IsThread}
+use Rattle.thread_state.specs.Passed.Names.{slot_names}
+use Rattle.thread_state.specs.Passed.Table.{Table}
+use Rattle.thread_state.specs.Passed.Rows.{row_words}
+use Rattle.thread_state.specs.Passed.Shown.{slots_shown}
+use Rattle.thread_state.proofs.Passed.Rows.{block_or_none}
+use Rattle.flat_statements.specs.Passed.Frame.{Frame}
+use Rattle.flat_statements.specs.Passed.Frames.{AreFrames}
 use Rattle.thread_state.specs.Rows.{Holds, waiting_rows, all_words}
 use Rattle.thread_state.specs.States.{IsState, own_row, rows_of, words_held}
 use Rattle.thread_state.specs.declared.state.ThreadState.{ThreadState}

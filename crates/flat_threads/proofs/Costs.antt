@@ -1,28 +1,28 @@
 -- Each step of a thread leaves less to do.
 use Rattle.std.proofs.Common.{◌≡◌, ℕ, zero, suc, ◌+◌, ◌*◌, ◌≤◌, Bool, true, false, List, [], ◌∷◌}
 use Rattle.std.proofs.Common.{◌++◌, Option, Some, None, Result, Ok, Err, refl, sym, ap, ◌∙◌, subst, arith}
-use Rattle.dag_order.specs.declared.fault.FaultKind.{FaultKind}
-use Rattle.depth_first_run.specs.Passed.Tree
-use Rattle.depth_first_run.specs.Passed.Tree.{Name, Func, Program}
-use Rattle.depth_first_run.specs.States.{Setting, State}
-use Rattle.depth_first_run.specs.Values.{Outcome, is_true}
-use Rattle.depth_first_run.specs.Middle as middles
-use Rattle.depth_first_run.specs.Middle.{Middle, step_frame}
-use Rattle.node_table.specs.Names.{slot_names}
-use Rattle.node_table.specs.Table as tables
-use Rattle.node_table.specs.Table.{Kind, let_node, assign_node, put_node, alloc_node, free_node, if_node, while_node, call_node, print_node}
-use Rattle.node_table.specs.Table.{both_node, split_node, Table}
-use Rattle.slot_store.specs.Rows.{Entry}
-use Rattle.thread_stack.specs.declared.frame.Frame.{Frame}
-use Rattle.thread_stack.specs.declared.frame.Frame.TheVariants.{Statements, Again, Tree as DummyTree, Answers, Rejoins, AnswersMain, Allocates, Joins}
-use Rattle.thread_stack.specs.declared.list_of.ListOf.{ListOf}
-use Rattle.thread_stack.specs.declared.list_of.ListOf.TheVariants.{Then, Other, Round}
-use Rattle.thread_stack.specs.Lists.{kind_at, kind_of_node, numbers_from}
-use Rattle.thread_stack.specs.Frames.{AreStatements, AreFrames, names_now}
-use Rattle.thread_stack.specs.Measure.{list_cost, kind_cost, node_cost, turn_cost, frames_cost, left_to_do}
-use Rattle.thread_stack.proofs.Lists.{first_statement}
-use Rattle.thread_stack.proofs.Costs.{node_covers, turn_covers_node}
-use Rattle.flat_expressions.specs.Values.{value_in, set_by, put_by}
+use Rattle.thread_state.specs.Passed.FaultKind.{FaultKind}
+use Rattle.par_tree.specs.Tree
+use Rattle.par_tree.specs.Tree.{Name, Func, Program}
+use Rattle.thread_state.specs.Passed.States.{Setting, State}
+use Rattle.thread_state.specs.Passed.Values.{Outcome, is_true}
+use Rattle.thread_state.specs.Passed.Middle as middles
+use Rattle.thread_state.specs.Passed.Middle.{Middle, step_frame}
+use Rattle.thread_state.specs.Passed.Names.{slot_names}
+use Rattle.thread_state.specs.Passed.Table as tables
+use Rattle.thread_state.specs.Passed.Table.{Kind, let_node, assign_node, put_node, alloc_node, free_node, if_node, while_node, call_node, print_node}
+use Rattle.thread_state.specs.Passed.Table.{both_node, split_node, Table}
+use Rattle.thread_state.specs.Passed.Rows.{Entry}
+use Rattle.flat_statements.specs.Passed.Frame.{Frame}
+use Rattle.flat_statements.specs.Passed.FrameVariants.{Statements, Again, Tree as DummyTree, Answers, Rejoins, AnswersMain, Allocates, Joins}
+use Rattle.flat_statements.specs.Passed.ListOf.{ListOf}
+use Rattle.flat_statements.specs.Passed.ListOfVariants.{Then, Other, Round}
+use Rattle.flat_statements.specs.Passed.Lists.{kind_at, kind_of_node, numbers_from}
+use Rattle.flat_statements.specs.Passed.Frames.{AreStatements, AreFrames, names_now}
+use Rattle.flat_statements.specs.Passed.Measure.{list_cost, kind_cost, node_cost, turn_cost, frames_cost, left_to_do}
+use Rattle.flat_statements.proofs.Passed.Lists.{first_statement}
+use Rattle.flat_statements.proofs.Passed.Costs.{node_covers, turn_covers_node}
+use Rattle.flat_statements.specs.Passed.Values.{value_in, set_by, put_by}
 use Rattle.flat_statements.specs.Flat.{Came, goes_to, meets, stops}
 use Rattle.flat_statements.specs.Threads.{Standing, standing, rest_of, row_step, arm_step, if_step, turn_step, round_step, while_step, kind_step}
 use Rattle.flat_statements.specs.Threads.{list_step, frame_step, thread_step, with_behind}

@@ -1,15 +1,15 @@
 -- A way leaves no more turns than there were.
 use Rattle.std.proofs.Common.{◌≡◌, ℕ, zero, suc, ◌+◌, ◌≤◌, Bool, true, false, List, [], ◌∷◌, Option, Some, None, Result, Ok, Err, subst, arith}
-use Rattle.dag_order.specs.declared.fault.FaultKind.{FaultKind}
-use Rattle.depth_first_run.specs.Values.{Outcome, is_true}
-use Rattle.node_table.specs.Table.{Table, Kind, let_node, assign_node, put_node, alloc_node, free_node, if_node, while_node, call_node}
-use Rattle.node_table.specs.Table.{print_node, both_node, split_node}
-use Rattle.slot_store.specs.Rows.{Entry}
-use Rattle.thread_stack.specs.declared.frame.Frame.{Frame}
-use Rattle.thread_stack.specs.declared.frame.Frame.TheVariants.{Statements, Again, Tree, Answers, Rejoins, AnswersMain, Allocates, Joins}
-use Rattle.thread_stack.specs.declared.list_of.ListOf.{ListOf}
-use Rattle.thread_stack.specs.Lists.{kind_at, numbers_from}
-use Rattle.flat_expressions.specs.Values.{value_in, set_by, put_by}
+use Rattle.thread_state.specs.Passed.FaultKind.{FaultKind}
+use Rattle.thread_state.specs.Passed.Values.{Outcome, is_true}
+use Rattle.thread_state.specs.Passed.Table.{Table, Kind, let_node, assign_node, put_node, alloc_node, free_node, if_node, while_node, call_node}
+use Rattle.thread_state.specs.Passed.Table.{print_node, both_node, split_node}
+use Rattle.thread_state.specs.Passed.Rows.{Entry}
+use Rattle.flat_statements.specs.Passed.Frame.{Frame}
+use Rattle.flat_statements.specs.Passed.FrameVariants.{Statements, Again, Tree, Answers, Rejoins, AnswersMain, Allocates, Joins}
+use Rattle.flat_statements.specs.Passed.ListOf.{ListOf}
+use Rattle.flat_statements.specs.Passed.Lists.{kind_at, numbers_from}
+use Rattle.flat_statements.specs.Passed.Values.{value_in, set_by, put_by}
 use Rattle.flat_statements.specs.Flat.{Came, goes_to, meets, stops}
 use Rattle.flat_statements.specs.Threads.{Standing, rest_of, row_step, arm_step, if_step, turn_step, round_step, while_step, kind_step}
 use Rattle.flat_statements.specs.Threads.{list_step, frame_step, frames_step, thread_step}

@@ -2,19 +2,19 @@
 use Rattle.std.proofs.Common.{◌≡◌, ℕ, zero, suc, ◌+◌, ◌<◌, ◌≤◌, Bool, true, false, List, [], ◌∷◌, length, set, ℤ}
 use Rattle.std.proofs.Common.{pos, negsuc, Option, Some, None, Result, Ok, Err, refl, sym, ap, ◌∙◌, subst, arith, rules, length-set}
 use Rattle.std.specs.Prelude.{nat_le, slice_set}
-use Rattle.dag_order.specs.declared.fault.FaultKind.{FaultKind}
-use Rattle.depth_first_run.specs.Stores.{block_words}
-use Rattle.depth_first_run.specs.Values.{Outcome, is_true, place_in}
-use Rattle.node_table.specs.Table.{Kind, let_node, assign_node, put_node, alloc_node, free_node, if_node, while_node, call_node, print_node}
-use Rattle.node_table.specs.Table.{both_node, split_node, Table}
-use Rattle.slot_store.specs.Rows.{Entry, entry_at, blocks_at, items_at, with_blocks_at, words_of, row_words}
-use Rattle.slot_store.proofs.Rows.{one_block}
-use Rattle.thread_stack.specs.declared.frame.Frame.{Frame}
-use Rattle.thread_stack.specs.declared.frame.Frame.TheVariants.{Statements, Again, Tree, Answers, Rejoins, AnswersMain, Allocates, Joins}
-use Rattle.thread_stack.specs.declared.list_of.ListOf.{ListOf}
-use Rattle.thread_stack.specs.Lists.{kind_at, numbers_from}
-use Rattle.flat_expressions.specs.Acts.{left_in, written_in}
-use Rattle.flat_expressions.specs.Values.{value_in, set_by, put_with, put_by}
+use Rattle.thread_state.specs.Passed.FaultKind.{FaultKind}
+use Rattle.thread_state.specs.Passed.Stores.{block_words}
+use Rattle.thread_state.specs.Passed.Values.{Outcome, is_true, place_in}
+use Rattle.thread_state.specs.Passed.Table.{Kind, let_node, assign_node, put_node, alloc_node, free_node, if_node, while_node, call_node, print_node}
+use Rattle.thread_state.specs.Passed.Table.{both_node, split_node, Table}
+use Rattle.thread_state.specs.Passed.Rows.{Entry, entry_at, blocks_at, items_at, with_blocks_at, words_of, row_words}
+use Rattle.thread_state.proofs.Passed.Rows.{one_block}
+use Rattle.flat_statements.specs.Passed.Frame.{Frame}
+use Rattle.flat_statements.specs.Passed.FrameVariants.{Statements, Again, Tree, Answers, Rejoins, AnswersMain, Allocates, Joins}
+use Rattle.flat_statements.specs.Passed.ListOf.{ListOf}
+use Rattle.flat_statements.specs.Passed.Lists.{kind_at, numbers_from}
+use Rattle.flat_statements.specs.Passed.Acts.{left_in, written_in}
+use Rattle.flat_statements.specs.Passed.Values.{value_in, set_by, put_with, put_by}
 use Rattle.flat_statements.specs.Flat.{Came, goes_to, meets, stops}
 use Rattle.flat_statements.specs.Threads.{Standing, rest_of, row_step, arm_step, if_step, turn_step, round_step, while_step, kind_step}
 use Rattle.flat_statements.specs.Threads.{list_step, frame_step, frames_step}

@@ -1,26 +1,26 @@
 -- A step of a thread over slots leaves a mark of a line, or nothing.
 use Rattle.std.proofs.Common.{◌≡◌, ℕ, zero, suc, ◌+◌, Bool, true, false, List, [], ◌∷◌, ◌++◌, ℤ, Option, Some, None, Ok, Err, refl, sym, ap, subst, append-nil}
-use Rattle.dag_order.specs.declared.fault.FaultKind.{FaultKind}
-use Rattle.depth_first_run.specs.Passed.Tree
-use Rattle.depth_first_run.specs.Passed.Tree.{Name, Func, Stmt, let_stmt, assign_stmt, put_stmt, alloc_stmt, free_stmt, if_stmt, while_stmt}
-use Rattle.depth_first_run.specs.Passed.Tree.{call_stmt, print_stmt, par_stmt, split_stmt, Body, done, step}
-use Rattle.depth_first_run.specs.Stores.{block_of}
-use Rattle.depth_first_run.specs.Values.{Outcome, value, is_true, place_in}
-use Rattle.depth_first_run.specs.States.{Setting, State, Item, began, with_item, with_action, with_number, with_fault}
-use Rattle.depth_first_run.specs.Run.{set_integer, put_in_place, put_number, put_value}
-use Rattle.depth_first_run.specs.Middle as middles
-use Rattle.depth_first_run.specs.Middle.{does, statements, Middle, before_all, step_with_number, step_branch, step_if, step_turn, step_round}
-use Rattle.depth_first_run.specs.Middle.{step_while, step_statement, step_first, step_frame}
-use Rattle.node_table.specs.Table.{Kind, alloc_node, free_node, call_node, print_node}
-use Rattle.node_table.specs.Table.{both_node, split_node, Table}
-use Rattle.node_table.specs.Programs.{IsStmt, function_names}
-use Rattle.slot_store.specs.Rows.{Entry}
-use Rattle.thread_stack.specs.declared.frame.Frame.{Frame}
-use Rattle.thread_stack.specs.declared.frame.Frame.TheVariants.{Statements, Again, Tree as DummyTree, Answers, Rejoins, AnswersMain, Allocates, Joins}
-use Rattle.thread_stack.specs.declared.list_of.ListOf.{ListOf}
-use Rattle.thread_stack.specs.Lists.{kind_at, kind_of_node, numbers_from}
-use Rattle.thread_stack.specs.Frames.{AreStatements, AreFrames, names_now}
-use Rattle.thread_stack.proofs.Lists.{FirstOf, no_statements, first_statement}
+use Rattle.thread_state.specs.Passed.FaultKind.{FaultKind}
+use Rattle.par_tree.specs.Tree
+use Rattle.par_tree.specs.Tree.{Name, Func, Stmt, let_stmt, assign_stmt, put_stmt, alloc_stmt, free_stmt, if_stmt, while_stmt}
+use Rattle.par_tree.specs.Tree.{call_stmt, print_stmt, par_stmt, split_stmt, Body, done, step}
+use Rattle.thread_state.specs.Passed.Stores.{block_of}
+use Rattle.thread_state.specs.Passed.Values.{Outcome, value, is_true, place_in}
+use Rattle.thread_state.specs.Passed.States.{Setting, State, Item, began, with_item, with_action, with_number, with_fault}
+use Rattle.thread_state.specs.Passed.Run.{set_integer, put_in_place, put_number, put_value}
+use Rattle.thread_state.specs.Passed.Middle as middles
+use Rattle.thread_state.specs.Passed.Middle.{does, statements, Middle, before_all, step_with_number, step_branch, step_if, step_turn, step_round}
+use Rattle.thread_state.specs.Passed.Middle.{step_while, step_statement, step_first, step_frame}
+use Rattle.thread_state.specs.Passed.Table.{Kind, alloc_node, free_node, call_node, print_node}
+use Rattle.thread_state.specs.Passed.Table.{both_node, split_node, Table}
+use Rattle.thread_state.specs.Passed.Programs.{IsStmt, function_names}
+use Rattle.thread_state.specs.Passed.Rows.{Entry}
+use Rattle.flat_statements.specs.Passed.Frame.{Frame}
+use Rattle.flat_statements.specs.Passed.FrameVariants.{Statements, Again, Tree as DummyTree, Answers, Rejoins, AnswersMain, Allocates, Joins}
+use Rattle.flat_statements.specs.Passed.ListOf.{ListOf}
+use Rattle.flat_statements.specs.Passed.Lists.{kind_at, kind_of_node, numbers_from}
+use Rattle.flat_statements.specs.Passed.Frames.{AreStatements, AreFrames, names_now}
+use Rattle.flat_statements.proofs.Passed.Lists.{FirstOf, no_statements, first_statement}
 use Rattle.flat_statements.specs.Flat.{goes_to}
 use Rattle.flat_statements.specs.Threads.{Standing, rest_of, kind_step, list_step, frame_step}
 use Rattle.flat_threads.specs.Along.{AreMarks}

@@ -1,6 +1,6 @@
 -- A thread with more turns goes the same way.
 use Rattle.std.proofs.Common.{ℕ, subst}
-use Rattle.node_table.specs.Table.{Table}
+use Rattle.thread_state.specs.Passed.Table.{Table}
 use Rattle.flat_statements.specs.Flat.{Came}
 use Rattle.flat_statements.specs.Threads.{Standing, thread_step, with_turns, IsStepWithMore}
 use Rattle.flat_statements.specs.Follows.{Steps, stays, onward}

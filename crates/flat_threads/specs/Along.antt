@@ -1,14 +1,14 @@
 -- Where a way leads a thread that is at a point of the depth-first run, and what is left as it was.
 use Rattle.std.specs.Prelude.{◌≡◌, List, [], ◌∷◌, ◌++◌, map}
-use Rattle.depth_first_run.specs.Passed.Tree.{Func}
-use Rattle.depth_first_run.specs.States.{Setting, State, Item, began, acted, printed, failed}
-use Rattle.depth_first_run.specs.Middle as middles
-use Rattle.thread_points.specs.Threads.{IsThread, open_children}
-use Rattle.node_table.specs.Names.{slot_names}
-use Rattle.node_table.specs.Table.{Table}
-use Rattle.thread_stack.specs.declared.frame.Frame.{Frame}
-use Rattle.thread_stack.specs.declared.frame.Frame.TheVariants.{Statements, Again, Tree, Answers, Rejoins, AnswersMain, Allocates, Joins}
-use Rattle.thread_stack.specs.Frames.{AreFrames, names_now}
+use Rattle.par_tree.specs.Tree.{Func}
+use Rattle.thread_state.specs.Passed.States.{Setting, State, Item, began, acted, printed, failed}
+use Rattle.thread_state.specs.Passed.Middle as middles
+use Rattle.thread_output.specs.Passed.Threads.{IsThread, open_children}
+use Rattle.thread_state.specs.Passed.Names.{slot_names}
+use Rattle.thread_state.specs.Passed.Table.{Table}
+use Rattle.flat_statements.specs.Passed.Frame.{Frame}
+use Rattle.flat_statements.specs.Passed.FrameVariants.{Statements, Again, Tree, Answers, Rejoins, AnswersMain, Allocates, Joins}
+use Rattle.flat_statements.specs.Passed.Frames.{AreFrames, names_now}
 use Rattle.thread_state.specs.States.{IsState}
 use Rattle.thread_state.specs.declared.state.ThreadState.{ThreadState}
 use Rattle.thread_output.specs.Telling.{Tells}

@@ -1,15 +1,15 @@
 -- What a caller may use of the ways of threads.
 use Rattle.std.specs.Prelude.{◌≡◌, ℕ, ◌+◌, ◌≤◌, false, List, ◌∷◌, ◌++◌, map}
-use Rattle.depth_first_run.specs.Passed.Tree.{Name, Func, Program}
-use Rattle.depth_first_run.specs.States.{Setting, State, Item}
-use Rattle.depth_first_run.specs.Middle as middles
-use Rattle.depth_first_run.specs.Middle.{Middle}
-use Rattle.thread_points.specs.Threads.{IsThread}
-use Rattle.node_table.specs.Names.{slot_names}
-use Rattle.node_table.specs.Table.{Table}
-use Rattle.thread_stack.specs.declared.frame.Frame.{Frame}
-use Rattle.thread_stack.specs.Frames.{AreFrames}
-use Rattle.thread_stack.specs.Measure.{left_to_do}
+use Rattle.par_tree.specs.Tree.{Name, Func, Program}
+use Rattle.thread_state.specs.Passed.States.{Setting, State, Item}
+use Rattle.thread_state.specs.Passed.Middle as middles
+use Rattle.thread_state.specs.Passed.Middle.{Middle}
+use Rattle.thread_output.specs.Passed.Threads.{IsThread}
+use Rattle.thread_state.specs.Passed.Names.{slot_names}
+use Rattle.thread_state.specs.Passed.Table.{Table}
+use Rattle.flat_statements.specs.Passed.Frame.{Frame}
+use Rattle.flat_statements.specs.Passed.Frames.{AreFrames}
+use Rattle.flat_statements.specs.Passed.Measure.{left_to_do}
 use Rattle.thread_state.specs.States.{IsState, own_row, words_held}
 use Rattle.thread_state.specs.declared.state.ThreadState.{ThreadState}
 use Rattle.thread_output.specs.Telling.{Tells}

@@ -1,3 +1,4 @@
 pub mod Ways
 pub mod Along
 pub mod Laws
+pub mod Passed

@@ -1,7 +1,7 @@
 -- What a way of a thread, step by step, changes and what it leaves.
 use Rattle.std.specs.Prelude.{◌≡◌, ℕ, zero, suc, ◌≤◌, List, length}
-use Rattle.node_table.specs.Table.{Table}
-use Rattle.slot_store.specs.Rows.{Entry, blocks_at, row_words}
+use Rattle.thread_state.specs.Passed.Table.{Table}
+use Rattle.thread_state.specs.Passed.Rows.{Entry, blocks_at, row_words}
 use Rattle.flat_statements.specs.Threads.{Standing}
 use Rattle.flat_statements.specs.Follows.{Steps, stays, onward}
 

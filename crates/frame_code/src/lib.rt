@@ -1,9 +1,9 @@
-//! Makes the node table of an accepted program.
+//! Makes the code of an accepted program: its node table, and the flat code that threads run by.
 //!
 //! This layer turns an accepted program into a table of statements, in which a name is the number of a slot of its function's frame and a
-//! list of statements is a list of node numbers. It stands on the table's types, on the checker and on the laws of accepted programs. Its
-//! one theorem is that the table, read with names in place of slots and of function numbers, is the program. Want of memory is its one free
-//! answer.
+//! list of statements is a list of node numbers, and has the flat code of the table made (`thread_code`). It stands on the table's types, on
+//! the code of threads, on the checker and on the laws of accepted programs. Its one theorem is that the table, read with names in place of
+//! slots and of function numbers, is the program. Want of memory is its one free answer.
 //!
 //! # Why
 //!
@@ -22,8 +22,8 @@
 //!   the counts (`accepted_source`). So the private functions require what they need, `Slotted.CanBeLowered`, and have no answer for its lack.
 //! - **The nodes of a table are as many as the statements of its program.** Each call says how many nodes it adds, so the next number is in
 //!   range.
-//! - **A copy is the same as plain data.** The memory that holds a list is not part of it, so a copy is no equal value of the code.
-//!   `code_shown` says what a code is as plain data, and the law `same_table_same_program` brings all that is read of a code to its copy.
+//! - **A copy is the same as plain data.** The memory that holds a list is not part of it, so a copy is no equal value of the table.
+//!   `code_shown` says what a table is as plain data, and the law `same_table_same_program` brings all that is read of a code to its copy.
 #![tactic(auto)]
 
 mod branches;
@@ -36,8 +36,9 @@ mod scope;
 mod slot_names;
 mod statements;
 
-pub use lowering::{lower, table_of};
+pub use lowering::{code_of, lower, table_of};
 pub use node_table::{
-    Code, CodeArg, CodeArgs, CodeExpr, CodeLink, CodeRest, CodeRet, CodeRetValue, CodeTarget,
-    FuncCode, Node, NodeKind, NodeList, Slots,
+    CodeArg, CodeArgs, CodeExpr, CodeLink, CodeRest, CodeRet, CodeRetValue, CodeTarget, FuncCode,
+    Node, NodeKind, NodeList, NodeTable, Slots,
 };
+pub use thread_code::Code;

@@ -7,8 +7,9 @@ ghost use Rattle.node_table.specs.Programs.{IsTableOf};
 use crate::function_numbers::FunctionNumbers;
 use crate::functions::lower_functions;
 use block_check::Checked;
-use node_table::Code;
+use node_table::NodeTable;
 use std::alloc::{AllocError, Global};
+use thread_code::Code;
 
 /// A program with frame slots in place of names, and nodes in place of statements.
 ///
@@ -18,17 +19,29 @@ use std::alloc::{AllocError, Global};
 /// # Errors
 ///
 /// There is not enough memory.
-pub fn table_of(alloc: Global, program: &Checked) -> Result<Code, AllocError>
-    ensures { IfOk result (λ c. IsTableOf (program_tree (program_of program.now)) (code_shown c)) }
+pub fn table_of(alloc: Global, program: &Checked) -> Result<NodeTable, AllocError>
+    ensures { IfOk result (λ t. IsTableOf (program_tree (program_of program.now)) (code_shown t)) }
 {
     let funcs = &program.program().funcs;
     let functions = FunctionNumbers::of(alloc, funcs)?;
     let (nodes, codes) = lower_functions(alloc, &functions)?;
     let main = functions.number(b"main".as_slice());
-    Ok(Code::of(nodes, codes, main))
+    Ok(NodeTable::of(nodes, codes, main))
 }
 
-/// The table of a program, of which there is no further use.
+/// The code of a program: its node table, and the flat code that its threads run by.
+///
+/// # Errors
+///
+/// There is not enough memory.
+pub fn code_of(alloc: Global, program: &Checked) -> Result<Code, AllocError>
+    ensures { IfOk result (λ c. IsTableOf (program_tree (program_of program.now)) (code_shown c)) }
+{
+    let table = table_of(alloc, program)?;
+    Code::of(alloc, table)
+}
+
+/// The code of a program, of which there is no further use.
 ///
 /// # Errors
 ///
@@ -36,5 +49,5 @@ pub fn table_of(alloc: Global, program: &Checked) -> Result<Code, AllocError>
 pub fn lower(alloc: Global, program: Checked) -> Result<Code, AllocError>
     ensures { IfOk result (λ c. IsTableOf (program_tree (program_of program)) (code_shown c)) }
 {
-    table_of(alloc, &program)
+    code_of(alloc, &program)
 }

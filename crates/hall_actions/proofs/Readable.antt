@@ -11,7 +11,7 @@ use Rattle.depth_first_list.specs.declared.quota.Quota.{Quota}
 use Rattle.hall_slots.specs.Passed.Lists.{Each}
 use Rattle.hall_slots.proofs.Passed.DequeMachineLists.{same_head}
 use Rattle.node_table.specs.Codes.{code_shown}
-use Rattle.node_table.specs.declared.code.Code.{Code}
+use Rattle.node_table.specs.declared.node_table.NodeTable.{NodeTable}
 use Rattle.open_periods.specs.Periods.{Period, open_shown}
 use Rattle.hall_parts.specs.Passed.StopVariants.{OutOfMemory}
 use Rattle.thread_frames.specs.Actions.{IsStill, IsOfTheList, JoinsNewest}
@@ -163,13 +163,13 @@ module _ (key : HallKey) (seat : HallSeat) (deque : DequeId) (was lane : LaneSlo
             listed = listed;
           })
 
-module _ (key : HallKey) (code : Code) (quota : Quota) (by : IsRunBy key code quota) where
+module _ (key : HallKey) (code : NodeTable) (quota : Quota) (by : IsRunBy key code quota) where
   pub at_code : (t : Thread) → IsAtPoint (table_of key) (quota_of key) t → IsAtPoint (code_shown code) (quota_words quota) t
-  at_code t = subst (λ (z : Code × Quota). IsAtPoint (code_shown z.0) (quota_words z.1) t) (λ i. (by.program i, by.terms i))
+  at_code t = subst (λ (z : NodeTable × Quota). IsAtPoint (code_shown z.0) (quota_words z.1) t) (λ i. (by.program i, by.terms i))
 
   pub of_code : (t : Thread) → IsAtPoint (code_shown code) (quota_words quota) t → IsAtPoint (table_of key) (quota_of key) t
-  of_code t = subst (λ (z : Code × Quota). IsAtPoint (code_shown z.0) (quota_words z.1) t) (λ i. (sym by.program i, sym by.terms i))
+  of_code t = subst (λ (z : NodeTable × Quota). IsAtPoint (code_shown z.0) (quota_words z.1) t) (λ i. (sym by.program i, sym by.terms i))
 
   pub list_of_code : (t : Thread) (next : Next) → ((c : Setting) → IsSettingOf (code_shown code) (quota_words quota) c → ∥ IsOfTheList c t next ∥₁)
       → (c : Setting) → IsSettingOf (table_of key) (quota_of key) c → ∥ IsOfTheList c t next ∥₁
-  list_of_code t next listed c of = listed c (subst (λ (z : Code × Quota). IsSettingOf (code_shown z.0) (quota_words z.1) c) (λ i. (by.program i, by.terms i)) of)
+  list_of_code t next listed c of = listed c (subst (λ (z : NodeTable × Quota). IsSettingOf (code_shown z.0) (quota_words z.1) c) (λ i. (by.program i, by.terms i)) of)

@@ -7,7 +7,7 @@ use Rattle.depth_first_list.specs.Actions.{record_words}
 use Rattle.depth_first_list.specs.declared.quota.Quota.{Quota}
 use Rattle.language_limits.specs.declared.TheConstants.{GREATEST_COUNT, GREATEST_QUOTA}
 use Rattle.hall_slots.specs.Passed.Lists.{Each}
-use Rattle.node_table.specs.declared.code.Code.{Code}
+use Rattle.node_table.specs.declared.node_table.NodeTable.{NodeTable}
 use Rattle.hall_parts.specs.Passed.StopVariants.{OutOfMemory as NoMemory}
 use Rattle.thread_frames.specs.Actions.{JoinsNewest}
 use Rattle.thread_frames.specs.Points.{IsAtPoint}
@@ -61,7 +61,7 @@ pub record IsAtNext (key : HallKey) (lane : LaneSlot) (at : AtNext) (next : Next
   pub listed : IsNext key at.top next
 
 -- The program and the quota of the hall.
-pub record IsRunBy (key : HallKey) (code : Code) (quota : Quota) : Type 0 where
+pub record IsRunBy (key : HallKey) (code : NodeTable) (quota : Quota) : Type 0 where
   pub program : key.code.value ≡ code
   pub terms : key.quota ≡ quota
 

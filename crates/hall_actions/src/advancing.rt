@@ -18,10 +18,9 @@ use depth_first_list::Quota;
 use deque_list::DequeId;
 use hall_parts::give_short_back;
 use hall_slots::{HallPlace, HallRow, LaneSlot, take_lane};
-use node_table::Code;
 use std::alloc::{AllocError, Global};
 use thread_actions::advance;
-use thread_frames::Next;
+use thread_frames::{Code, Next};
 use turn_table::Held;
 
 /// Why no thread came to its next action.

@@ -13,9 +13,9 @@ use depth_first_list::Quota;
 use deque_list::DequeId;
 use hall_parts::{give_short_back, give_still_back};
 use hall_slots::{HallPlace, HallRow, LaneSlot, take_lane};
-use node_table::Code;
 use std::alloc::Global;
 use thread_actions::step_on;
+use thread_frames::Code;
 
 /// Lets the top thread of a lane that the seat holds go on for some `most` turns, gives the lane back, and says whether the thread has come to
 /// its next action.

@@ -17,10 +17,9 @@ use depth_first_list::Quota;
 use deque_list::DequeId;
 use hall_actions::{AdvanceRefused, AtNext, SeatMemory, come_to_next};
 use hall_slots::{HallPlace, HallRow};
-use node_table::Code;
 use play_rules::Stop;
 use std::alloc::Global;
-use thread_frames::Next;
+use thread_frames::{Code, Next};
 
 /// Does the event for which the action asks before which the top thread is. The terms are the quota, and how many actions may be counted.
 fn go_on(

@@ -11,9 +11,9 @@ use depth_first_list::Quota;
 use deque_list::DequeId;
 use hall_actions::{AdvanceRefused, go_some_turns};
 use hall_slots::{HallPlace, HallRow};
-use node_table::Code;
 use play_rules::Stop;
 use std::alloc::Global;
+use thread_frames::Code;
 
 /// Lets the top thread of a seat's deque go on towards its next action for some `most` turns, and says whether it has come there. No event is
 /// done: the lane is taken and put back, and the moment of the hall is what it was.

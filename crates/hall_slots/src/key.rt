@@ -1,6 +1,6 @@
 use depth_first_list::Quota;
-use node_table::Code;
 use std::snapshot::Snapshot;
+use thread_frames::Code;
 
 /// What is fixed for a hall: its program, and what bounds its run.
 #[derive(Drop)]

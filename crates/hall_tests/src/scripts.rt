@@ -5,9 +5,9 @@ ghost use Rattle.hall_threads.specs.Passed.Seated.{IsIn, IsProgramOf};
 
 use crate::hold::held;
 use crate::seats::{give_up, go_on, left, put, taken};
+use frame_code::Code;
 use hall_slots::Event;
 use hall_threads::{EventRefused, Hall, Seat};
-use node_table::Code;
 use play_rules::RunEnd;
 use std::fmt::{Debug, Write};
 use std::process::Abort;

@@ -5,9 +5,9 @@ ghost use Rattle.turn_table.specs.Tables.{slot_count};
 ghost use Rattle.hall_threads.specs.Passed.Seated.{IsIn, IsProgramOf};
 
 use deque_list::DequeId;
+use frame_code::Code;
 use hall_slots::Event;
 use hall_threads::{EventRefused, Hall, LeaveRefused, Seat};
-use node_table::Code;
 use std::process::Abort;
 
 /// Steals with a word if the seat owns no deque, and otherwise acts.

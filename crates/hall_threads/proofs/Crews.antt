@@ -3,7 +3,7 @@ use Rattle.std.proofs.Common.{◌≡◌, ℕ, suc, ◌+◌, ◌<◌, List, [], �
 use Rattle.std.proofs.lemmas.List.Elements.{All-head, All-nil, All-cons, All-push, All-tail}
 use Rattle.std.specs.Prelude.{All, slice_index_or}
 use Rattle.std.specs.List.{AllZip}
-use Rattle.node_table.specs.declared.code.Code.{Code}
+use Rattle.node_table.specs.declared.node_table.NodeTable.{NodeTable}
 use Rattle.play_rules.specs.declared.ends.RunEnd.{RunEnd}
 use Rattle.work_loop.specs.declared.member.Member.{Member}
 use Rattle.worker_entry.specs.declared.hall.Hall.{Hall}
@@ -15,7 +15,7 @@ use Rattle.hall_threads.specs.Crews.{AreLeft, HasItsEnd, IsCrew, IsFreshIn, IsOf
 
 module _ {C : Type 0} (hall : Hall) where
   -- one member that has worked
-  worked : (code : Code) (before after : Member (HallWorker C) RunEnd) → IsFreshIn hall (seat_of before) → HasWorkedIn hall code before after
+  worked : (code : NodeTable) (before after : Member (HallWorker C) RunEnd) → IsFreshIn hall (seat_of before) → HasWorkedIn hall code before after
       → HasWorked hall before after
   worked code before after fresh w = record {
     has_end = record { is_in = w.again.1; end = w.end.0; ended = w.end.1; told = w.end.2; rules = λ finish is. w.same.yields ∙ fresh.rules };
@@ -24,7 +24,7 @@ module _ {C : Type 0} (hall : Hall) where
   }
 
   -- all
-  pub all_worked : (code : Code) (xs ys : List (Member (HallWorker C) RunEnd)) → length ys ≡ length xs
+  pub all_worked : (code : NodeTable) (xs ys : List (Member (HallWorker C) RunEnd)) → length ys ≡ length xs
       → All (λ member. IsFreshIn hall (seat_of member)) xs
       → ((i : ℕ) (d : Member (HallWorker C) RunEnd) → i < length xs → HasWorkedIn hall code (slice_index_or xs i d) (slice_index_or ys i d))
       → AllZip (HasWorked hall) xs ys

@@ -13,7 +13,7 @@ use Rattle.worker_entry.specs.Passed.Core.{Core}
 use Rattle.depth_first_list.specs.QuotaWords.{quota_words}
 use Rattle.depth_first_list.specs.declared.quota.Quota.{Quota}
 use Rattle.node_table.specs.Codes.{code_shown}
-use Rattle.node_table.specs.declared.code.Code.{Code}
+use Rattle.node_table.specs.declared.node_table.NodeTable.{NodeTable}
 use Rattle.play_rules.specs.declared.ends.RunEnd.{RunEnd}
 use Rattle.play_rules.specs.declared.ends.RunEnd.TheVariants.{Finished, Stopped}
 use Rattle.play_rules.specs.declared.stop.Stop.{Stop}
@@ -69,7 +69,7 @@ module _ (core : Core) (closing : Closing) (left : IsLeftOf core closing) where
   gives = left.4.closes.6
 
   table_is : table_of key ≡ code_shown core.code
-  table_is = ap (λ (code : Code). code_shown code) left.2.key.code
+  table_is = ap (λ (code : NodeTable). code_shown code) left.2.key.code
 
   quota_is : quota_of key ≡ quota_words core.k
   quota_is = ap (λ (quota : Quota). quota_words quota) left.2.key.quota

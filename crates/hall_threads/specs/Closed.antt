@@ -2,7 +2,7 @@
 use Rattle.std.specs.Prelude.{◌≡◌, Ok}
 use Rattle.dag_order.specs.declared.finish.Finish.{Finish}
 use Rattle.worker_entry.specs.Passed.Core.{Core}
-use Rattle.node_table.specs.declared.code.Code.{Code}
+use Rattle.node_table.specs.declared.node_table.NodeTable.{NodeTable}
 use Rattle.play_rules.specs.declared.ends.RunEnd.{RunEnd}
 use Rattle.play_rules.specs.declared.ends.RunEnd.TheVariants.{Finished}
 use Rattle.work_loop.specs.declared.member.Member.{Member}
@@ -28,4 +28,4 @@ pub record IsClosedBy (hall : Hall) (last : Seat) (closing : Closing) : Type 0 w
 
 -- This is left of a run of the hall of a core.
 abbrev pub IsLeftOf : Core → Closing → Type 0
-IsLeftOf core closing = (hall : Hall) × (code : Code) × IsHallOf core hall code × (last : Seat) × IsClosedBy hall last closing
+IsLeftOf core closing = (hall : Hall) × (code : NodeTable) × IsHallOf core hall code × (last : Seat) × IsClosedBy hall last closing

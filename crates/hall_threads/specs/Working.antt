@@ -2,7 +2,7 @@
 use Rattle.std.proofs.Common.{refl, ◌∙◌}
 use Rattle.std.specs.Prelude.{◌≡◌, Some}
 use Rattle.play_rules.specs.declared.ends.RunEnd.{RunEnd}
-use Rattle.node_table.specs.declared.code.Code.{Code}
+use Rattle.node_table.specs.declared.node_table.NodeTable.{NodeTable}
 use Rattle.worker_entry.specs.declared.hall.Hall.{Hall}
 use Rattle.worker_entry.specs.declared.seat.Seat.{Seat}
 use Rattle.worker_entry.specs.Seated.{IsIn, IsProgramOf}
@@ -32,10 +32,10 @@ same_on x y z first second = record {
 }
 
 -- a worker of a hall and its program, which may try its next event there
-abbrev pub MayWork : {C : Type 0} → Hall → Code → HallWorker C → Type 0
+abbrev pub MayWork : {C : Type 0} → Hall → NodeTable → HallWorker C → Type 0
 MayWork hall code worker = IsProgramOf hall code × IsIn hall worker.seat
 
 -- The worker of a member worked in this hall until it was answered an end, which the member has.
-abbrev pub HasWorkedIn : {C : Type 0} → Hall → Code → (before after : Member (HallWorker C) RunEnd) → Type 0
+abbrev pub HasWorkedIn : {C : Type 0} → Hall → NodeTable → (before after : Member (HallWorker C) RunEnd) → Type 0
 HasWorkedIn hall code before after =
     HasWorked (MayWork hall code) (λ x y. IsSameWorker x.seat y.seat) (λ x end. HasSeen x.seat end) before after

@@ -7,9 +7,9 @@ ghost use Rattle.hall_threads.specs.Working.{IsSameWorker, MayWork};
 use crate::answer::Answer;
 use crate::tries::make_try;
 use crate::worker::HallWorker;
-use node_table::Code;
 use play_rules::RunEnd;
 use scheduler_state::Choices;
+use thread_frames::Code;
 use work_loop::Gate;
 use worker_entry::{EventRefused, Hall};
 

@@ -7,12 +7,12 @@ ghost use Rattle.play_rules.specs.declared.ends.RunEnd.{RunEnd as AnyEnd};
 ghost use Rattle.work_loop.specs.declared.member.Member.{Member as AnyMember};
 
 use crate::worker::HallWorker;
-use node_table::Code;
 use play_rules::RunEnd;
 use scheduler_state::Choices;
 use std::sync::Wait;
 use std::thread::Threads;
 use std::time::Clock;
+use thread_frames::Code;
 use work_loop::{Gate, Member, WorksToEnd, work_all};
 use worker_entry::Hall;
 

@@ -20,13 +20,13 @@ use crate::leaving::leave_all;
 use crate::ran::Ran;
 use crate::telling::ran_of;
 use crate::worker::HallWorker;
-use node_table::Code;
 use play_rules::RunEnd;
 use scheduler_state::Choices;
 use std::alloc::{AllocError, Global};
 use std::sync::Wait;
 use std::thread::Threads;
 use std::time::Clock;
+use thread_frames::Code;
 use work_loop::{Gate, Member};
 use worker_entry::{CloseRefused, Closing, Core, Hall};
 

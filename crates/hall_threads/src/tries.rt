@@ -9,9 +9,9 @@ ghost use Rattle.work_loop.specs.Tries.{EndsAs};
 
 use crate::answer::Answer;
 use hall_slots::Event;
-use node_table::Code;
 use play_rules::{RunEnd, Stop};
 use scheduler_state::Choices;
+use thread_frames::Code;
 use work_loop::Tried;
 use worker_entry::{EventRefused, Hall, Seat};
 

@@ -1,7 +1,7 @@
 use crate::tries::try_next;
-use node_table::Code;
 use play_rules::RunEnd;
 use scheduler_state::Choices;
+use thread_frames::Code;
 use work_loop::{Tried, Works};
 use worker_entry::{Hall, Seat};
 

@@ -7,7 +7,7 @@ use Rattle.node_table.specs.Names.{slot_names, name_at, IsSlot}
 use Rattle.node_table.specs.Table.{Node, Function, Table}
 use Rattle.node_table.specs.Programs.{IsBody, IsFunc, function_names, IsTableOf}
 use Rattle.node_table.specs.Codes.{code_shown}
-use Rattle.node_table.specs.declared.code.Code.{Code}
+use Rattle.node_table.specs.declared.node_table.NodeTable.{NodeTable}
 
 -- slots of different numbers have different names
 abbrev pub SlotNamesDiffer : Type 0
@@ -15,9 +15,9 @@ SlotNamesDiffer =
     (f : Func) (i j : ℕ) → i < length (slot_names f) → j < length (slot_names f) → name_at (slot_names f) i ≡ name_at (slot_names f) j
     → i ≡ j
 
--- codes that are the same as plain data are of the same programs
+-- tables that are the same as plain data are of the same programs
 abbrev pub SameTableSameProgram : Type 0
-SameTableSameProgram = (p : Program) (a b : Code) → code_shown a ≡ code_shown b → IsTableOf p (code_shown a) → IsTableOf p (code_shown b)
+SameTableSameProgram = (p : Program) (a b : NodeTable) → code_shown a ≡ code_shown b → IsTableOf p (code_shown a) → IsTableOf p (code_shown b)
 
 -- a number that reads as a name is that of the function that a call of this name finds, and the table has it under this number
 pub record IsCallee (p : Program) (t : Table) (n : ℕ) (x : Name) : Type 0 where

@@ -1,4 +1,4 @@
--- What the values of a code are as plain data.
+-- What the values of a node table are as plain data.
 use Rattle.std.specs.Prelude.{ℕ, List, [], ◌∷◌, map, Option, Some, None}
 use Rattle.par_tree.specs.View.{chain_op_tree, cmp_op_tree}
 use Rattle.node_table.specs.Table

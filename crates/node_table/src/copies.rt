@@ -1,4 +1,4 @@
-//! Copies of what a code has.
+//! Copies of what a node table has.
 
 ghost use Rattle.std.specs.Prelude.{◌≡◌, IfOk};
 ghost use Rattle.node_table.specs.Shown.{expr_shown, links_shown, arg_shown, args_shown, ret_value_shown, ret_shown, kind_shown, nodes_shown, func_shown, funcs_shown};
@@ -226,7 +226,7 @@ fn copy_function(alloc: Global, func: &FuncCode) -> Result<FuncCode, AllocError>
     })
 }
 
-/// The functions of a code again.
+/// The functions of a table again.
 pub(crate) fn copy_functions(alloc: Global, funcs: &[FuncCode]) -> Result<Vec<FuncCode>, AllocError>
     ensures { IfOk result (λ v. funcs_shown v.items ≡ funcs_shown funcs.now) }
 {

@@ -5,7 +5,7 @@ pub fn slot_names_differ()
     ensures { SlotNamesDiffer }
 {}
 
-/// Codes with the same nodes, the same functions and the same `main` are codes of the same program.
+/// Tables with the same nodes, the same functions and the same `main` are tables of the same program.
 pub fn same_table_same_program()
     ensures { SameTableSameProgram }
 {}

@@ -1,24 +1,24 @@
 ghost use Rattle.language_limits.specs.declared.TheConstants.{GREATEST_COUNT};
 
-use crate::code::Code;
 use crate::copies::{copy_functions, copy_nodes};
 use crate::func_code::FuncCode;
 use crate::node::Node;
+use crate::node_table::NodeTable;
 use std::alloc::{AllocError, Global};
 
-impl Code {
+impl NodeTable {
     ghost use Rattle.std.specs.Prelude.{◌≡◌, ◌≤◌, ◌==◌, IfOk, length, slice_get, option_copied};
     ghost use Rattle.node_table.specs.Codes.{nodes_of, funcs_of, main_of, code_shown};
     ghost use Rattle.node_table.specs.Programs.{IsAcceptedTable};
     ghost use Rattle.node_table.specs.Shown.{table_shown};
 
-    /// The code of a table, which is that of some program that keeps the rules of ownership.
-    pub fn of(nodes: Vec<Node>, funcs: Vec<FuncCode>, main: u32) -> Code
+    /// The table of these nodes, which is that of some program that keeps the rules of ownership.
+    pub fn of(nodes: Vec<Node>, funcs: Vec<FuncCode>, main: u32) -> NodeTable
         requires numbered { length nodes.items ≤ GREATEST_COUNT }
         requires accepted { IsAcceptedTable (table_shown nodes.items funcs.items main) }
         ensures { code_shown result ≡ table_shown nodes.items funcs.items main }
     {
-        Code { nodes, funcs, main }
+        NodeTable { nodes, funcs, main }
     }
 
     /// The table is that of some program that keeps the rules of ownership.
@@ -63,17 +63,17 @@ impl Code {
         self.main
     }
 
-    /// A code of the same program: the same nodes, the same functions and the same `main`.
+    /// A table of the same program: the same nodes, the same functions and the same `main`.
     ///
     /// # Errors
     ///
     /// There is not enough memory.
-    pub fn copy(&self, alloc: Global) -> Result<Code, AllocError>
+    pub fn copy(&self, alloc: Global) -> Result<NodeTable, AllocError>
         ensures { IfOk result (λ c. code_shown c ≡ code_shown self.now) }
     {
         let nodes = copy_nodes(alloc, &self.nodes)?;
         let funcs = copy_functions(alloc, &self.funcs)?;
         let main = self.main;
-        Ok(Code { nodes, funcs, main })
+        Ok(NodeTable { nodes, funcs, main })
     }
 }

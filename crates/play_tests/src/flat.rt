@@ -5,12 +5,12 @@ ghost use Rattle.flat_statements.specs.Forward.{IsForward};
 ghost use Rattle.flat_code.specs.Shown.{flat_shown};
 ghost use Rattle.flat_program.specs.Programs.{IsFlatProgram};
 
-use crate::tables::code_of;
+use crate::tables::table_in;
 use dag_order::FaultKind;
 use flat_code::{Places, can_be_flat, listing, lower_whole};
 use flat_program::FlatProgram;
 use flat_run::{End, run_flat};
-use frame_code::Code;
+use frame_code::NodeTable;
 use slot_store::Slots;
 use std::alloc::Global;
 use std::process::Abort;
@@ -87,14 +87,14 @@ const ROW: u16 = 11;
 fn places_of(rt: &impl Abort, alloc: Global, text: &str) -> Places
     ensures { IsForward (flat_shown result.items) }
 {
-    let code = code_of(rt, alloc, text);
-    let Some(func) = code.func(0) else {
+    let table = table_in(rt, alloc, text);
+    let Some(func) = table.func(0) else {
         panic!(rt; "a function");
     };
     let slots = func.slots;
     let body = ListOf::Body(0);
-    assert!(rt; can_be_flat(&code, body, slots, ROW));
-    let Ok(places) = lower_whole(alloc, &code, body, slots, ROW) else {
+    assert!(rt; can_be_flat(&table, body, slots, ROW));
+    let Ok(places) = lower_whole(alloc, &table, body, slots, ROW) else {
         panic!(rt; "memory");
     };
     places
@@ -161,10 +161,16 @@ fn flat_code_runs(rt: HostRuntime) {
 }
 
 /// A frame begins at this place of the flat code of its program.
-fn begins_at(rt: &impl Abort, code: &Code, program: &FlatProgram, frame: Frame, due: Option<usize>)
-    requires { IsFlatProgram (code_shown code.now) program.now }
+fn begins_at(
+    rt: &impl Abort,
+    table: &NodeTable,
+    program: &FlatProgram,
+    frame: Frame,
+    due: Option<usize>,
+)
+    requires { IsFlatProgram (code_shown table.now) program.now }
 {
-    match program.start(code, frame) {
+    match program.start(table, frame) {
         Some(start) => assert!(rt; due == Some(start.place)),
         None => assert!(rt; due.is_none()),
     }
@@ -179,16 +185,16 @@ fn from(list: ListOf, next: usize) -> Frame {
 #[test]
 fn frames_begin_in_flat_code(rt: HostRuntime) {
     let alloc = rt.alloc();
-    let code = code_of(&rt, alloc, LOOPS);
-    let program = FlatProgram::of(alloc, &code).expect(&rt, "memory");
-    begins_at(&rt, &code, &program, from(ListOf::Body(0), 0), Some(0));
-    begins_at(&rt, &code, &program, from(ListOf::Body(0), 2), Some(2));
-    begins_at(&rt, &code, &program, from(ListOf::Round(2), 0), Some(3));
-    begins_at(&rt, &code, &program, from(ListOf::Then(3), 0), Some(4));
-    begins_at(&rt, &code, &program, from(ListOf::Other(3), 0), Some(8));
-    begins_at(&rt, &code, &program, from(ListOf::Body(0), 3), Some(10));
-    begins_at(&rt, &code, &program, from(ListOf::Body(0), 4), None);
-    begins_at(&rt, &code, &program, Frame::Again(2), Some(9));
-    begins_at(&rt, &code, &program, Frame::Again(4), Some(6));
-    begins_at(&rt, &code, &program, Frame::Again(3), None);
+    let table = table_in(&rt, alloc, LOOPS);
+    let program = FlatProgram::of(alloc, &table).expect(&rt, "memory");
+    begins_at(&rt, &table, &program, from(ListOf::Body(0), 0), Some(0));
+    begins_at(&rt, &table, &program, from(ListOf::Body(0), 2), Some(2));
+    begins_at(&rt, &table, &program, from(ListOf::Round(2), 0), Some(3));
+    begins_at(&rt, &table, &program, from(ListOf::Then(3), 0), Some(4));
+    begins_at(&rt, &table, &program, from(ListOf::Other(3), 0), Some(8));
+    begins_at(&rt, &table, &program, from(ListOf::Body(0), 3), Some(10));
+    begins_at(&rt, &table, &program, from(ListOf::Body(0), 4), None);
+    begins_at(&rt, &table, &program, Frame::Again(2), Some(9));
+    begins_at(&rt, &table, &program, Frame::Again(4), Some(6));
+    begins_at(&rt, &table, &program, Frame::Again(3), None);
 }

@@ -3,7 +3,7 @@
 use crate::plays::number;
 use accepted_source::accept;
 use block_check::SetsFail;
-use frame_code::{Code, lower};
+use frame_code::{Code, NodeTable, lower, table_of};
 use std::alloc::Global;
 use std::fmt::Write;
 use std::process::Abort;
@@ -35,12 +35,20 @@ fn repeated(rt: &impl Abort, alloc: Global, [front, piece, times, back]: [&str; 
     text
 }
 
-/// The table of a text.
+/// The code of a text.
 pub(crate) fn code_of(rt: &impl Abort, alloc: Global, text: &str) -> Code {
     let Ok(program) = accept(alloc, text.as_bytes()) else {
         panic!(rt; "an accepted text");
     };
     lower(alloc, program).expect(rt, "memory")
+}
+
+/// The node table of a text.
+pub(crate) fn table_in(rt: &impl Abort, alloc: Global, text: &str) -> NodeTable {
+    let Ok(program) = accept(alloc, text.as_bytes()) else {
+        panic!(rt; "an accepted text");
+    };
+    table_of(alloc, &program).expect(rt, "memory")
 }
 
 /// A table has so many nodes and functions.

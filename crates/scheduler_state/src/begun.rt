@@ -13,11 +13,10 @@ use block_arena::Pool;
 use containers::Boxed;
 use deque_list::List;
 use language_limits::MOST_ENTRIES;
-use node_table::Code;
 use open_periods::PeriodTable;
 use space_ledger::Moves;
 use std::alloc::{AllocError, Global};
-use thread_frames::Thread;
+use thread_frames::{Code, Thread};
 use thread_map::ThreadMap;
 
 /// The root in a deque without an owner.

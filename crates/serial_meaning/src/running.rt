@@ -22,18 +22,17 @@ use crate::run::Run;
 use block_check::Checked;
 use dag_order::Finish;
 use depth_first_list::Quota;
-use frame_code::table_of;
-use node_table::Code;
+use frame_code::code_of;
 use serial_journal::{Journal, Serial, SerialStop};
 use std::alloc::{AllocError, Global};
-use thread_frames::Ended;
+use thread_frames::{Code, Ended};
 
 /// Runs a program depth-first, with a quota of `k` words, up to so many actions.
 ///
 /// A forked child runs to its end before its parent goes on. Before an allocation of more than `k` words the tree of
 /// dummies is run. A fault ends the work of its thread, and of each thread that joins it.
 ///
-/// The program is made a table first, in time of at most its size times the names of a function. Calls and forks take none of the caller's
+/// The program is made code first, in time of at most its size times the names of a function. Calls and forks take none of the caller's
 /// stack. Blocks lie in a pool that grows as the run needs, up to the peak of its live words.
 ///
 /// # Errors
@@ -49,7 +48,7 @@ pub fn depth_first(
 {
     // For the prover alone: the program keeps the rules.
     program.program();
-    let code = table_of(alloc, program)?;
+    let code = code_of(alloc, program)?;
     run_all(alloc, &code, k, limit)
 }
 

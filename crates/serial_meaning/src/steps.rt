@@ -20,10 +20,9 @@ use block_arena::{Pool, PoolError};
 use containers::Boxed;
 use depth_first_list::Quota;
 use language_limits::PIECE_WORDS;
-use node_table::Code;
 use serial_journal::{Journal, SerialStop};
 use std::alloc::{AllocError, Global};
-use thread_frames::{Ended, Next, Thread};
+use thread_frames::{Code, Ended, Next, Thread};
 
 impl Run {
     /// The root before its first action, with an empty journal.

@@ -7,3 +7,4 @@ pub mod Forks
 pub mod Calls
 pub mod Returns
 pub mod Laws
+pub mod Passed

@@ -12,9 +12,8 @@ ghost use Rattle.thread_frames.specs.Views.{children_of, done_of, next_of, threa
 
 use containers::Boxed;
 use depth_first_list::Quota;
-use node_table::Code;
 use std::alloc::{AllocError, Global};
-use thread_frames::{Next, Place, Thread};
+use thread_frames::{Code, Next, Place, Thread};
 
 /// Makes a place for the thread that is forked next, if there is none: that of a thread that has ended, or a new one.
 ///

@@ -1,5 +1,5 @@
 use flat_program::FlatProgram;
-use node_table::Code as NodeTable;
+use node_table::NodeTable;
 use std::marker::Model;
 
 /// The code of a program that keeps the rules of ownership: its node table, and flat code of its lists of statements.
@@ -15,10 +15,10 @@ impl Model for Code {
     ghost use Rattle.std.specs.Coded.{codes};
     ghost use Rattle.node_table.specs.Codes.{code_shown};
     ghost use Rattle.flat_program.specs.Programs.{IsFlatProgram};
-    ghost use Rattle.node_table.specs.declared.code.Code as tables;
+    ghost use Rattle.node_table.specs.declared.node_table.NodeTable as tables;
     ghost use Rattle.node_table.specs.contracts.code_expr.CodeExpr as expressions;
 
-    ghost Value = { tables.Code };
+    ghost Value = { tables.NodeTable };
 
     ghost coded = { Prim.hlevel (codes, expressions.the_row.coded) };
 

@@ -1,16 +1,15 @@
 //! What comes next by a frame: the statements of its list, and its flat code.
 
 ghost use Rattle.std.specs.Prelude.{◌≡◌, ◌≤◌, ◌<◌, ◌++◌, ℕ, List, length, IsSome, IfSome, ◌↔◌};
-ghost use Rattle.depth_first_run.specs.Passed.Tree.{Program, Func, Body as BodyTree};
-ghost use Rattle.depth_first_run.specs.Middle.{Frame as RunFrame, before_all};
+ghost use Rattle.par_tree.specs.Tree.{Program, Func, Body as BodyTree};
+ghost use Rattle.thread_stack.specs.Passed.Middle.{Frame as RunFrame, before_all};
 ghost use Rattle.thread_stack.specs.Lists.{numbers_of, numbers_from};
 ghost use Rattle.thread_stack.specs.Frames.{AreStatements, AreFrames, names_now, frames_shown};
 ghost use Rattle.thread_stack.specs.Measure.{frames_cost, list_cost, node_cost};
 ghost use Rattle.flat_program.specs.Programs.{BeginsAt};
 
 use crate::code::Code;
-use flat_code::Instruction;
-use flat_program::FlatList;
+use flat_program::{FlatList, Instruction};
 use thread_stack::{Frame, ListOf, frame_from, numbers};
 
 impl Code {

@@ -1,6 +1,6 @@
 use crate::code::Code;
 use flat_program::FlatProgram;
-use node_table::{Code as NodeTable, FuncCode, Node};
+use node_table::{FuncCode, Node, NodeTable};
 use std::alloc::{AllocError, Global};
 
 impl Code {

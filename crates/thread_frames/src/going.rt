@@ -7,7 +7,7 @@ ghost use Rattle.depth_first_list.specs.QuotaWords.{quota_words};
 ghost use Rattle.std.specs.Prelude.{slice_get};
 ghost use Rattle.language_limits.specs.declared.TheConstants.{GREATEST_COUNT};
 ghost use Rattle.node_table.specs.Table.{Function};
-ghost use Rattle.thread_code.specs.Codes.{code_shown};
+ghost use Rattle.node_table.specs.Codes.{code_shown};
 ghost use Rattle.thread_state.specs.Settings.{IsSettingOf};
 ghost use Rattle.block_arena.specs.Size.{words_taken};
 ghost use Rattle.thread_frames.specs.Views.{newest, id_of};
@@ -25,10 +25,9 @@ use dag_order::{Label, Placed, ThreadId};
 use depth_first_list::Quota;
 use language_limits::PIECE_WORDS;
 use node_table::NodeKind;
-use thread_code::Code;
 use std::alloc::{AllocError, Global};
 use thread_output::Told;
-use thread_run::{Ready, ThreadRun};
+use thread_run::{Code, Ready, ThreadRun};
 use thread_stack::{Branch, Frame, ListOf};
 use thread_state::ThreadState;
 
@@ -126,7 +125,7 @@ impl Thread {
         if let Some(next) = self.told() {
             return Ok(next);
         }
-        self.go_on(alloc, code, k, 0, u32::MAX)?;
+        self.go_on(alloc, code, k, 0)?;
         match self.told() {
             Some(next) => Ok(next),
             None => unreachable!(),
@@ -157,7 +156,7 @@ impl Thread {
             return Ok(true);
         }
         let stop = self.run.state.turns().saturating_sub(most);
-        self.go_on(alloc, code, k, stop, most)
+        self.go_on(alloc, code, k, stop)
     }
 
     /// The action that is prepared.
@@ -179,15 +178,7 @@ impl Thread {
     }
 
     /// Goes on, where no action is prepared, until one is, or until fewer than `stop` turns of loops and calls are left, and says which: true for an action.
-    /// The turns are looked at once in `lists` lists of statements, or more often.
-    fn go_on(
-        &mut self,
-        alloc: Global,
-        code: &Code,
-        k: Quota,
-        stop: u32,
-        lists: u32,
-    ) -> Result<bool, AllocError>
+    fn go_on(&mut self, alloc: Global, code: &Code, k: Quota, stop: u32) -> Result<bool, AllocError>
         requires point { IsAtPoint (code_shown code.now) (quota_words k) self.old }
         requires count { done_of self.old < GREATEST_COUNT }
         requires nothing { next_of self.old ≡ None }
@@ -198,7 +189,7 @@ impl Thread {
     {
         // For the prover alone: the table is that of an accepted program.
         code.is_accepted();
-        let Some(ready) = self.run.advance(alloc, code, k, stop, lists)? else {
+        let Some(ready) = self.run.advance(alloc, code, k, stop)? else {
             return Ok(false);
         };
         let prepared = prepared_for(&self.run.state, alloc, code, ready)?;

@@ -60,3 +60,4 @@ pub use laws::{
 pub use next::Next;
 pub use place::Place;
 pub use thread::Thread;
+pub use thread_run::Code;

@@ -3,8 +3,8 @@ use Rattle.std.proofs.Common.{inl, inr, ◌≡◌, ℕ, ◌+◌, ◌*◌, ◌≤
 use Rattle.std.specs.Prelude.{slice_get}
 use Rattle.std.specs.declared.alloc.AllocError.{AllocError}
 use Rattle.par_tree.specs.Tree.{Name, Program, Func, Stmt, Body, while_stmt, step, done, Expr}
-use Rattle.thread_points.specs.Passed.States.{Setting}
-use Rattle.thread_points.specs.Passed.Middle.{step_statement}
+use Rattle.thread_state.specs.Passed.States.{Setting}
+use Rattle.thread_state.specs.Passed.Middle.{step_statement}
 use Rattle.node_table.specs.Table as tables
 use Rattle.node_table.specs.Table.{Table, Node, Kind, if_node, while_node, both_node, split_node}
 use Rattle.node_table.specs.Programs.{IsStmt, IsBody, function_names}

@@ -5,10 +5,10 @@ use Rattle.dag_order.specs.declared.fault.FaultKind.{FaultKind}
 use Rattle.par_tree.specs.Tree.{Name, Program, Func, Target, Arg, Body, call_stmt}
 use Rattle.par_tree.specs.Names.{param_names}
 use Rattle.par_ownership.specs.Ownership.{function_of}
-use Rattle.thread_points.specs.Passed.States.{Setting, State, with_fault, with_turn, with_turns, with_depth, under_limit}
-use Rattle.thread_points.specs.Passed.Calls.{Passing, all_passed, entered}
-use Rattle.thread_points.specs.Passed.Middle as middles
-use Rattle.thread_points.specs.Passed.Middle.{Middle, middle, answers, before_all, step_body, step_open_call, step_call_with, step_call}
+use Rattle.thread_state.specs.Passed.States.{Setting, State, with_fault, with_turn, with_turns, with_depth, under_limit}
+use Rattle.thread_state.specs.Passed.DepthFirstRunCalls.{Passing, all_passed, entered}
+use Rattle.thread_state.specs.Passed.Middle as middles
+use Rattle.thread_state.specs.Passed.Middle.{Middle, middle, answers, before_all, step_body, step_open_call, step_call_with, step_call}
 use Rattle.node_table.specs.Names.{slot_names}
 use Rattle.node_table.specs.Reading.{AreArgs, AreSlots}
 use Rattle.node_table.specs.Table as tables

@@ -1,7 +1,7 @@
 -- Behind the frames of a thread there is a function that runs.
 use Rattle.std.proofs.Common.{◌≡◌, List, [], ◌∷◌, refl, subst}
 use Rattle.par_tree.specs.Tree.{Program, Func}
-use Rattle.thread_points.specs.Passed.Middle as middles
+use Rattle.thread_state.specs.Passed.Middle as middles
 use Rattle.node_table.specs.Table.{Table}
 use Rattle.thread_stack.specs.declared.frame.Frame.{Frame}
 use Rattle.thread_stack.specs.declared.frame.Frame.TheVariants.{Statements, Again}

@@ -4,7 +4,7 @@ use Rattle.std.specs.Prelude.{slice_get, map}
 use Rattle.std.proofs.Math.Logic.{∥∥₁_elim}
 use Rattle.par_tree.specs.Tree.{Name, Stmt, Arg, call_stmt, step}
 use Rattle.par_ownership.specs.Ownership.{OwnsFunction}
-use Rattle.thread_points.specs.Passed.Middle.{does, statements}
+use Rattle.thread_state.specs.Passed.Middle.{does, statements}
 use Rattle.node_table.specs.Names.{slot_names}
 use Rattle.node_table.specs.Reading.{FitsArgs, FitsSlots, slots_read, args_read}
 use Rattle.node_table.specs.Table as tables

@@ -6,10 +6,10 @@ use Rattle.std.proofs.lemmas.List.{nil_from_length}
 use Rattle.par_tree.specs.Tree.{Name, Func, Target, Arg, Param, Ret}
 use Rattle.par_tree.specs.Names.{param_names}
 use Rattle.par_ownership.specs.Ownership.{takes_answer, hands_back, Ownership}
-use Rattle.thread_points.specs.Passed.Stores.{Store}
-use Rattle.thread_points.specs.Passed.States.{Setting, State}
-use Rattle.thread_points.specs.Passed.Middle as middles
-use Rattle.thread_points.specs.Passed.Middle.{answers, answers_main}
+use Rattle.thread_state.specs.Passed.Stores.{Store}
+use Rattle.thread_state.specs.Passed.States.{Setting, State}
+use Rattle.thread_state.specs.Passed.Middle as middles
+use Rattle.thread_state.specs.Passed.Middle.{answers, answers_main}
 use Rattle.node_table.specs.Names.{slot_names, name_at}
 use Rattle.node_table.specs.Reading.{FitsArgs, FitsSlots, FitsTarget, FitsRet, slots_read, args_read, target_read, ret_read, IsReturn, FitsRetValue, ret_value_read}
 use Rattle.node_table.specs.Table as tables

@@ -15,12 +15,12 @@ use Rattle.dag_order.specs.declared.fault.FaultKind.TheVariants as faults
 use Rattle.depth_first_list.specs.Shapes.{Shape}
 use Rattle.depth_first_list.specs.Runs.{tree_for}
 use Rattle.par_tree.specs.Tree.{Name, Program, Func, Expr, Body}
-use Rattle.thread_points.specs.Passed.Stores.{block_of, block_words}
-use Rattle.thread_points.specs.Passed.Values.{Outcome, value, place_in}
-use Rattle.thread_points.specs.Passed.States.{Setting, State, Item, with_number, with_fault, with_turn, with_turns}
-use Rattle.thread_points.specs.Passed.Run.{names_in, assigns_in, size_of, unchanged, put_value, put_number, put_in_place}
-use Rattle.thread_points.specs.Passed.Middle as middles
-use Rattle.thread_points.specs.Passed.Middle.{Middle, middle, statements, does, tree, allocates, allocated, step_with_number, step_fork, step_par, step_alloc, step_alloc_words, step_alloc_within, step_turn, step_cut, rejoins, before_all}
+use Rattle.thread_state.specs.Passed.Stores.{block_of, block_words}
+use Rattle.thread_state.specs.Passed.Values.{Outcome, value, place_in}
+use Rattle.thread_state.specs.Passed.States.{Setting, State, Item, with_number, with_fault, with_turn, with_turns}
+use Rattle.thread_state.specs.Passed.Run.{names_in, assigns_in, size_of, unchanged, put_value, put_number, put_in_place}
+use Rattle.thread_state.specs.Passed.Middle as middles
+use Rattle.thread_state.specs.Passed.Middle.{Middle, middle, statements, does, tree, allocates, allocated, step_with_number, step_fork, step_par, step_alloc, step_alloc_words, step_alloc_within, step_turn, step_cut, rejoins, before_all}
 use Rattle.node_table.specs.Table.{Table, Kind}
 use Rattle.thread_stack.specs.declared.frame.Frame.{Frame}
 use Rattle.thread_stack.specs.Frames.{AreFrames, AreStatements, IsParNode, frames_shown}

@@ -6,11 +6,11 @@ use Rattle.node_table.specs.Shown.{kind_shown}
 use Rattle.node_table.specs.declared.code_expr.CodeExpr.{CodeExpr}
 use Rattle.node_table.specs.declared.node_kind.NodeKind.{NodeKind}
 use Rattle.node_table.specs.declared.node_kind.NodeKind.TheVariants as k
-use Rattle.thread_points.specs.Passed.Stores.{Store}
-use Rattle.thread_points.specs.Passed.States.{Setting, State, skip_if, unless_faulted}
-use Rattle.thread_points.specs.Passed.Run.{on_store, rejoin_block}
-use Rattle.thread_points.specs.Passed.Middle as middles
-use Rattle.thread_points.specs.Passed.Middle.{rejoins, step_frame}
+use Rattle.thread_state.specs.Passed.Stores.{Store}
+use Rattle.thread_state.specs.Passed.States.{Setting, State, skip_if, unless_faulted}
+use Rattle.thread_state.specs.Passed.Run.{on_store, rejoin_block}
+use Rattle.thread_state.specs.Passed.Middle as middles
+use Rattle.thread_state.specs.Passed.Middle.{rejoins, step_frame}
 use Rattle.node_table.specs.Names.{slot_names, name_at}
 use Rattle.node_table.specs.Table as tables
 use Rattle.node_table.specs.Table.{Table, Kind, split_node}

@@ -4,10 +4,10 @@ use Rattle.std.specs.Prelude.{true, is_some, IfOk, OnOk, MatchResult}
 use Rattle.std.specs.declared.alloc.AllocError.{AllocError}
 use Rattle.dag_order.specs.declared.fault.FaultAt.{FaultAt}
 use Rattle.par_tree.specs.Tree.{Program, Func, Stmt}
-use Rattle.thread_points.specs.Passed.States.{Setting, State, Item, printed}
-use Rattle.thread_points.specs.Passed.Run.{lines_of, first_fault}
-use Rattle.thread_points.specs.Passed.Middle as middles
-use Rattle.thread_points.specs.Passed.Middle.{Middle, step_frame, step_statement}
+use Rattle.thread_state.specs.Passed.States.{Setting, State, Item, printed}
+use Rattle.thread_state.specs.Passed.Run.{lines_of, first_fault}
+use Rattle.thread_state.specs.Passed.Middle as middles
+use Rattle.thread_state.specs.Passed.Middle.{Middle, step_frame, step_statement}
 use Rattle.node_table.specs.Names.{slot_names}
 use Rattle.node_table.specs.Table.{Table}
 use Rattle.thread_points.specs.Points.{IsPlain, marked}

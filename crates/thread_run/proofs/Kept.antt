@@ -5,9 +5,9 @@ use Rattle.std.specs.declared.alloc.AllocError.{AllocError}
 use Rattle.std.proofs.Math.Logic.{∥∥₁_elim}
 use denote.Struct.Props.{props}
 use Rattle.par_tree.specs.Tree.{Program, Func, Body, done, step}
-use Rattle.thread_points.specs.Passed.States.{Setting, State, began, with_item}
-use Rattle.thread_points.specs.Passed.Middle as middles
-use Rattle.thread_points.specs.Passed.Middle.{does, statements, answers, rejoins, answers_main, allocates, Middle, before_all, step_frame, step_first, step_statement}
+use Rattle.thread_state.specs.Passed.States.{Setting, State, began, with_item}
+use Rattle.thread_state.specs.Passed.Middle as middles
+use Rattle.thread_state.specs.Passed.Middle.{does, statements, answers, rejoins, answers_main, allocates, Middle, before_all, step_frame, step_first, step_statement}
 use Rattle.node_table.specs.Names.{slot_names}
 use Rattle.node_table.specs.Table.{Table}
 use Rattle.thread_points.specs.Points.{marked}

@@ -7,9 +7,9 @@ use denote.Struct.Props.{props}
 use Rattle.std.proofs.lemmas.List.{nil_from_length}
 use Rattle.language_limits.specs.declared.TheConstants.{LONGEST_BLOCK}
 use Rattle.par_tree.specs.Tree.{Name, Program, Func, Stmt}
-use Rattle.thread_points.specs.Passed.Stores.{Held, block_of}
-use Rattle.thread_points.specs.Passed.Middle as middles
-use Rattle.thread_points.specs.Passed.Middle.{allocates, rejoins}
+use Rattle.thread_state.specs.Passed.Stores.{Held, block_of}
+use Rattle.thread_state.specs.Passed.Middle as middles
+use Rattle.thread_state.specs.Passed.Middle.{allocates, rejoins}
 use Rattle.node_table.specs.Names.{slot_names, name_at, IsSlot}
 use Rattle.node_table.specs.Table as tables
 use Rattle.node_table.specs.Table.{Table, Node, Kind, let_node, assign_node, put_node, alloc_node, free_node, if_node, while_node, call_node, print_node, both_node, split_node}

@@ -6,8 +6,8 @@ use Rattle.std.proofs.Math.Logic.{∥∥₁_elim}
 use denote.Struct.Props.{props}
 use Rattle.std.proofs.lemmas.List.{nil_from_length}
 use Rattle.par_tree.specs.Tree.{Name, Program, Func, Stmt, alloc_stmt, free_stmt, split_stmt, step}
-use Rattle.thread_points.specs.Passed.Stores.{Held}
-use Rattle.thread_points.specs.Passed.Middle.{does, statements}
+use Rattle.thread_state.specs.Passed.Stores.{Held}
+use Rattle.thread_state.specs.Passed.Middle.{does, statements}
 use Rattle.node_table.specs.Names.{slot_names, name_at, IsSlot}
 use Rattle.node_table.specs.Table as tables
 use Rattle.node_table.specs.Table.{Table, Node, Kind, let_node, assign_node, put_node, alloc_node, free_node, split_node}

@@ -7,10 +7,10 @@ use Rattle.std.proofs.lemmas.Bool.{cases_lt}
 use Rattle.std.proofs.lemmas.List.{drop_all}
 use Rattle.par_tree.specs.Tree.{Name, Program, Func, Stmt, Body, step, done}
 use Rattle.par_ownership.specs.Ownership.{function_of}
-use Rattle.thread_points.specs.Passed.States.{Setting, State, began, with_item}
-use Rattle.thread_points.specs.Passed.Run.{actions_of}
-use Rattle.thread_points.specs.Passed.Middle as middles
-use Rattle.thread_points.specs.Passed.Middle.{Middle, middle, does, statements, before_all, step_frame, step_first, step_call, step_statement}
+use Rattle.thread_state.specs.Passed.States.{Setting, State, began, with_item}
+use Rattle.thread_state.specs.Passed.Run.{actions_of}
+use Rattle.thread_state.specs.Passed.Middle as middles
+use Rattle.thread_state.specs.Passed.Middle.{Middle, middle, does, statements, before_all, step_frame, step_first, step_call, step_statement}
 use Rattle.node_table.specs.Names.{slot_names}
 use Rattle.node_table.specs.Table as tables
 use Rattle.node_table.specs.Table.{Table, Kind, let_node, assign_node, put_node, alloc_node, free_node, if_node, while_node, call_node, print_node, both_node, split_node}

@@ -4,8 +4,8 @@ use Rattle.std.specs.Prelude.{reverse}
 use Rattle.std.proofs.Math.Logic.{∥∥₁_map}
 use Rattle.std.proofs.lemmas.List.{reverse-append}
 use Rattle.par_tree.specs.Tree.{Func, Program}
-use Rattle.thread_points.specs.Passed.States.{Setting, State, Item}
-use Rattle.thread_points.specs.Passed.Middle as middles
+use Rattle.thread_state.specs.Passed.States.{Setting, State, Item}
+use Rattle.thread_state.specs.Passed.Middle as middles
 use Rattle.node_table.specs.Table.{Table}
 use Rattle.thread_points.specs.Threads.{IsThread}
 use Rattle.thread_stack.specs.declared.frame.Frame.{Frame}

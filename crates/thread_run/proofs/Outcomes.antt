@@ -5,10 +5,10 @@ use Rattle.std.specs.declared.alloc.AllocError.{AllocError}
 use Rattle.std.proofs.Math.Logic.{∥∥₁_elim, ∥∥₁_map}
 use denote.Struct.Props.{props}
 use Rattle.par_tree.specs.Tree.{Func}
-use Rattle.thread_points.specs.Passed.States.{Setting, State, Item, holdings}
-use Rattle.thread_points.specs.Passed.Run.{actions_of}
-use Rattle.thread_points.specs.Passed.Middle as middles
-use Rattle.thread_points.specs.Passed.Middle.{step_frame}
+use Rattle.thread_state.specs.Passed.States.{Setting, State, Item, holdings}
+use Rattle.thread_state.specs.Passed.Run.{actions_of}
+use Rattle.thread_state.specs.Passed.Middle as middles
+use Rattle.thread_state.specs.Passed.Middle.{step_frame}
 use Rattle.node_table.specs.Names.{slot_names}
 use Rattle.node_table.specs.Table.{Table}
 use Rattle.thread_points.specs.Threads.{IsThread}

@@ -4,14 +4,14 @@ use Rattle.std.specs.Prelude.{map, slice_get}
 use Rattle.dag_order.specs.declared.fault.FaultKind.{FaultKind}
 use Rattle.par_tree.specs.Tree.{Name, Program, Func, Target, Arg, Param, Ret, RetValue, gives, hands}
 use Rattle.par_tree.specs.Names.{param_names}
-use Rattle.thread_points.specs.Passed.Stores.{Store, block_of, drop_block}
-use Rattle.thread_points.specs.Passed.Values as values
-use Rattle.thread_points.specs.Passed.Values.{Outcome}
-use Rattle.thread_points.specs.Passed.States.{Setting, State, Item, with_fault, with_number, skip_if, unless_faulted}
-use Rattle.thread_points.specs.Passed.Calls.{Answer, number, items, end_call, returned, with_answer, with_return, as_number}
-use Rattle.thread_points.specs.Passed.Run.{ignore_answer}
-use Rattle.thread_points.specs.Passed.Middle as middles
-use Rattle.thread_points.specs.Passed.Middle.{answers, answers_main, step_frame}
+use Rattle.thread_state.specs.Passed.Stores.{Store, block_of, drop_block}
+use Rattle.thread_state.specs.Passed.Values as values
+use Rattle.thread_state.specs.Passed.Values.{Outcome}
+use Rattle.thread_state.specs.Passed.States.{Setting, State, Item, with_fault, with_number, skip_if, unless_faulted}
+use Rattle.thread_state.specs.Passed.DepthFirstRunCalls.{Answer, number, items, end_call, returned, with_answer, with_return, as_number}
+use Rattle.thread_state.specs.Passed.Run.{ignore_answer}
+use Rattle.thread_state.specs.Passed.Middle as middles
+use Rattle.thread_state.specs.Passed.Middle.{answers, answers_main, step_frame}
 use Rattle.node_table.specs.Names.{slot_names}
 use Rattle.node_table.specs.Reading.{IsTarget, AreArgs, AreSlots, IsReturn}
 use Rattle.node_table.specs.Table as tables

@@ -10,7 +10,7 @@ use Rattle.par_tree.specs.Tree.{Name, Arg, Param, ParamKind, value, lend, give}
 use Rattle.par_tree.specs.Names.{param_names}
 use Rattle.par_ownership.specs.Environment.{Environment, Entry, with_entry, param_entry}
 use Rattle.par_ownership.specs.Ownership.{OwnsParams, passes, PassesOne, Passes}
-use Rattle.thread_points.specs.Passed.Stores.{Store}
+use Rattle.thread_state.specs.Passed.Stores.{Store}
 use Rattle.node_table.specs.Names.{name_at}
 use Rattle.node_table.specs.Reading.{FitsArgs, FitsSlots, slots_read, args_read}
 use Rattle.node_table.specs.Table as tables

@@ -5,9 +5,9 @@ use Rattle.std.proofs.lemmas.List.{append_cancel_left}
 use Rattle.depth_first_list.specs.Actions as actions
 use Rattle.depth_first_list.specs.Actions.{Action, record_words}
 use Rattle.par_ownership.specs.Ownership.{Ownership}
-use Rattle.thread_points.specs.Passed.States.{Setting, State, Item, next_action, given_back, holdings}
-use Rattle.thread_points.specs.Passed.Run.{actions_of}
-use Rattle.thread_points.specs.Passed.Middle.{Frame, does, answers, rejoins, answers_main, allocates, awaits, joins, Middle, step_frame}
+use Rattle.thread_state.specs.Passed.States.{Setting, State, Item, next_action, given_back, holdings}
+use Rattle.thread_state.specs.Passed.Run.{actions_of}
+use Rattle.thread_state.specs.Passed.Middle.{Frame, does, answers, rejoins, answers_main, allocates, awaits, joins, Middle, step_frame}
 use Rattle.thread_state.proofs.Passed.Covered.{actions_append}
 use Rattle.thread_points.specs.Points.{Each, IsOwn, IsPlain, step_of, marked, mark_of, StepsAlone, StepForks}
 use Rattle.thread_points.specs.Threads.{IsThread, open_children}

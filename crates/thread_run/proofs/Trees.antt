@@ -5,10 +5,10 @@ use Rattle.depth_first_list.specs.TreeLeaves.{tree_leaves}
 use Rattle.depth_first_list.specs.declared.tree.Tree.{Tree}
 use Rattle.depth_first_list.specs.Actions as actions
 use Rattle.par_tree.specs.Tree.{Name, Func}
-use Rattle.thread_points.specs.Passed.States.{Setting, State, with_action}
-use Rattle.thread_points.specs.Passed.Run.{no_name}
-use Rattle.thread_points.specs.Passed.Middle as middles
-use Rattle.thread_points.specs.Passed.Middle.{does, tree, allocates, allocated, step_fork}
+use Rattle.thread_state.specs.Passed.States.{Setting, State, with_action}
+use Rattle.thread_state.specs.Passed.Run.{no_name}
+use Rattle.thread_state.specs.Passed.Middle as middles
+use Rattle.thread_state.specs.Passed.Middle.{does, tree, allocates, allocated, step_fork}
 use Rattle.node_table.specs.Names.{IsSlot}
 use Rattle.node_table.specs.Table.{Table}
 use Rattle.thread_stack.specs.declared.branch.Branch.TheVariants.{Dummies}

@@ -8,9 +8,9 @@ use Rattle.std.proofs.Math.Logic.{∥∥₁_map, ∥∥₁_elim}
 use denote.Struct.Props.{props}
 use Rattle.std.proofs.lemmas.List.{reverse-append}
 use Rattle.par_tree.specs.Tree.{Func}
-use Rattle.thread_points.specs.Passed.States.{Setting, State, Item}
-use Rattle.thread_points.specs.Passed.Middle as middles
-use Rattle.thread_points.specs.Passed.Middle.{middle}
+use Rattle.thread_state.specs.Passed.States.{Setting, State, Item}
+use Rattle.thread_state.specs.Passed.Middle as middles
+use Rattle.thread_state.specs.Passed.Middle.{middle}
 use Rattle.node_table.specs.Names.{slot_names}
 use Rattle.node_table.specs.Table.{Table}
 use Rattle.thread_points.specs.Threads.{IsThread}
@@ -21,6 +21,7 @@ use Rattle.thread_stack.specs.Measure.{left_to_do}
 use Rattle.thread_output.specs.Telling.{Tells}
 use Rattle.thread_state.specs.States.{own_row}
 use Rattle.thread_state.specs.declared.state.ThreadState.{ThreadState}
+use Rattle.thread_code.specs.Passed.Programs.{mark_at}
 use Rattle.thread_run.specs.Stands.{InState}
 use Rattle.thread_run.specs.declared.run.ThreadRun.{ThreadRun}
 use Rattle.thread_run.specs.Functions.{functions_of, forked_in, frames_of}
@@ -28,14 +29,11 @@ use Rattle.thread_run.specs.Going.{IsGoing, Knowing, IsKnown}
 use Rattle.thread_run.specs.Stepping.{GoesOn, KeepsCounts, UnderWay}
 use Rattle.thread_run.specs.Ways.{BeginsFlat, GoesAlong, GoesOrStays}
 use Rattle.thread_run.proofs.OnTheWay.{counts_trans}
-use Rattle.flat_statements.specs.Flat.{frames_at}
-use Rattle.flat_code.specs.Shown.{flat_shown}
-use Rattle.flat_program.specs.declared.flat_list.FlatList.{FlatList}
-use Rattle.flat_program.specs.Running.{stands_at, RunsThread}
-use Rattle.flat_run.specs.declared.stop.Stop.{Stop}
-use Rattle.slot_store.specs.Rows.{Entry}
-use Rattle.flat_statements.specs.Threads.{standing}
-use Rattle.flat_statements.specs.Follows.{Steps}
+use Rattle.thread_code.specs.Passed.FlatList.{FlatList}
+use Rattle.thread_code.specs.Passed.Running.{Stopped, stands_at, RunsThread}
+use Rattle.thread_state.specs.Passed.Rows.{Entry}
+use Rattle.flat_threads.specs.Passed.Threads.{standing}
+use Rattle.flat_threads.specs.Passed.Follows.{Steps}
 use Rattle.flat_threads.specs.Along.{other_frames, DiffersInRow}
 use Rattle.flat_threads.proofs.Bridge.{threads_go, words_stay, in_state}
 use Rattle.flat_threads.proofs.Costs.{ways_leave_less}
@@ -185,7 +183,7 @@ left_within n v below next is less =
     omega (arith, less, long, both, counted)
 
 -- the turns that were kept are left besides
-all_turns : (t : Table) (l : FlatList) (kept place : ℕ) (stop : Stop) (before after : ThreadState) → kept ≤ before.turns → after.turns ≡ stop.turns + kept
+all_turns : (t : Table) (l : FlatList) (kept place : ℕ) (stop : Stopped) (before after : ThreadState) → kept ≤ before.turns → after.turns ≡ stop.turns + kept
     → RunsThread t l place (own_row before) (before.turns - kept) stop (own_row after)
     → Steps t (stands_at l place (own_row before) before.turns) (stands_at l stop.place (own_row after) after.turns)
 all_turns t l kept place stop before after some still runs =
@@ -195,21 +193,21 @@ all_turns t l kept place stop before after some still runs =
     (more_turns t kept (stands_at l place (own_row before) (before.turns - kept)) (stands_at l stop.place (own_row after) stop.turns) runs.way))
 
 -- no more are left than there were
-pub few_turns : (t : Table) (l : FlatList) (kept turns place : ℕ) (stop : Stop) (before after : List Entry) → kept ≤ turns
+pub few_turns : (t : Table) (l : FlatList) (kept turns place : ℕ) (stop : Stopped) (before after : List Entry) → kept ≤ turns
     → RunsThread t l place before (turns - kept) stop after → stop.turns + kept ≤ turns
 few_turns t l kept turns place stop before after some runs =
     let less = ways_take_turns t (stands_at l place before (turns - kept)) (stands_at l stop.place after stop.turns) runs.way in
     omega (arith, less, some)
 
 -- a run of flat code leads a thread along it
-pub along : (t : Table) (before after : ThreadRun) (l : FlatList) (place left kept : ℕ) (stop : Stop) → BeginsFlat t before l place left
+pub along : (t : Table) (before after : ThreadRun) (l : FlatList) (place left kept : ℕ) (stop : Stopped) → BeginsFlat t before l place left
     → DiffersInRow before.state after.state → kept ≤ before.state.turns → after.state.turns ≡ stop.turns + kept
     → RunsThread t l place (own_row before.state) (before.state.turns - kept) stop (own_row after.state)
-    → frames_of after ≡ frames_at (flat_shown l.places.items) stop.place ++ reverse (take left before.frames.items)
+    → frames_of after ≡ mark_at l stop.place ++ reverse (take left before.frames.items)
     → after.func ≡ before.func → after.told ≡ before.told → GoesAlong t before after
 along t before after l place left kept stop begins same some still runs after_is func told = record {
-  from = frames_at (flat_shown l.places.items) place;
-  to = frames_at (flat_shown l.places.items) stop.place;
+  from = mark_at l place;
+  to = mark_at l stop.place;
   below = reverse (take left before.frames.items);
   before_is = begins.mark;
   after_is = after_is;

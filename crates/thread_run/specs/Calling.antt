@@ -3,9 +3,9 @@ use Rattle.std.specs.Prelude.{◌≡◌, ℕ, Bool, true, false, List, ◌∷◌
 use Rattle.std.specs.declared.alloc.AllocError.{AllocError}
 use Rattle.par_tree.specs.Tree.{Name, Func, Target, Arg, call_stmt}
 use Rattle.par_ownership.specs.Ownership.{function_of}
-use Rattle.thread_points.specs.Passed.States.{Setting, State, with_fault}
-use Rattle.thread_points.specs.Passed.Middle as middles
-use Rattle.thread_points.specs.Passed.Middle.{Middle, step_call}
+use Rattle.thread_state.specs.Passed.States.{Setting, State, with_fault}
+use Rattle.thread_state.specs.Passed.Middle as middles
+use Rattle.thread_state.specs.Passed.Middle.{Middle, step_call}
 use Rattle.node_table.specs.Names.{slot_names}
 use Rattle.node_table.specs.Table as tables
 use Rattle.node_table.specs.Table.{Kind, call_node, Function, Table}

@@ -5,11 +5,11 @@ use Rattle.std.specs.declared.alloc.AllocError.{AllocError}
 use Rattle.depth_first_list.specs.Actions as actions
 use Rattle.par_tree.specs.Tree
 use Rattle.par_tree.specs.Tree.{Name, Func}
-use Rattle.thread_points.specs.Passed.Stores.{block_of, block_words}
-use Rattle.thread_points.specs.Passed.States.{Setting, State, printed, with_action, with_fault}
-use Rattle.thread_points.specs.Passed.Run.{free_block, names_in, no_name}
-use Rattle.thread_points.specs.Passed.Middle as middles
-use Rattle.thread_points.specs.Passed.Middle.{Middle, allocated, step_fork, does}
+use Rattle.thread_state.specs.Passed.Stores.{block_of, block_words}
+use Rattle.thread_state.specs.Passed.States.{Setting, State, printed, with_action, with_fault}
+use Rattle.thread_state.specs.Passed.Run.{free_block, names_in, no_name}
+use Rattle.thread_state.specs.Passed.Middle as middles
+use Rattle.thread_state.specs.Passed.Middle.{Middle, allocated, step_fork, does}
 use Rattle.node_table.specs.Names.{IsSlot}
 use Rattle.node_table.specs.Table.{Table}
 use Rattle.thread_stack.specs.declared.branch.Branch.{Branch}

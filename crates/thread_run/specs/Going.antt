@@ -3,9 +3,9 @@ use Rattle.std.specs.Prelude.{◌≡◌, ℕ, List, [], ◌∷◌, Result, Match
 use Rattle.std.specs.declared.alloc.AllocError.{AllocError}
 use Rattle.par_tree.specs.Tree.{Func}
 use Rattle.dag_order.specs.declared.fault.FaultAt.{FaultAt}
-use Rattle.thread_points.specs.Passed.States.{Setting, State, Item, with_fault}
-use Rattle.thread_points.specs.Passed.Middle as middles
-use Rattle.thread_points.specs.Passed.Middle.{step_frame}
+use Rattle.thread_state.specs.Passed.States.{Setting, State, Item, with_fault}
+use Rattle.thread_state.specs.Passed.Middle as middles
+use Rattle.thread_state.specs.Passed.Middle.{step_frame}
 use Rattle.node_table.specs.Table.{Table}
 use Rattle.thread_points.specs.Points.{IsPlain, marked}
 use Rattle.thread_points.specs.Threads.{IsThread, open_children}

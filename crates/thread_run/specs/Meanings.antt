@@ -1,9 +1,9 @@
 -- What a statement that comes next means: it is one of a thread, at a point of the run of an accepted program.
 use Rattle.std.specs.Prelude.{◌≡◌, ℕ, false, List, ◌∷◌}
 use Rattle.par_tree.specs.Tree.{Func, Stmt, Body, step}
-use Rattle.thread_points.specs.Passed.States.{Setting, State}
-use Rattle.thread_points.specs.Passed.Middle as middles
-use Rattle.thread_points.specs.Passed.Middle.{does, statements}
+use Rattle.thread_state.specs.Passed.States.{Setting, State}
+use Rattle.thread_state.specs.Passed.Middle as middles
+use Rattle.thread_state.specs.Passed.Middle.{does, statements}
 use Rattle.node_table.specs.Names.{slot_names}
 use Rattle.node_table.specs.Table.{Table}
 use Rattle.thread_stack.specs.Frames.{IsNode}

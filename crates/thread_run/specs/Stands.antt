@@ -1,8 +1,8 @@
 -- Where a thread stands between two steps: what is left to it, and its state.
 use Rattle.std.specs.Prelude.{ℕ, List, ◌∷◌, map}
 use Rattle.par_tree.specs.Tree.{Func}
-use Rattle.thread_points.specs.Passed.States.{Setting, State}
-use Rattle.thread_points.specs.Passed.Middle as middles
+use Rattle.thread_state.specs.Passed.States.{Setting, State}
+use Rattle.thread_state.specs.Passed.Middle as middles
 use Rattle.node_table.specs.Names.{slot_names}
 use Rattle.node_table.specs.Table.{Table}
 use Rattle.thread_stack.specs.declared.frame.Frame.{Frame}

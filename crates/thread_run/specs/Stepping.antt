@@ -2,10 +2,10 @@
 use Rattle.std.specs.Prelude.{◌≡◌, ℕ, ◌+◌, ◌≤◌, ◌⊎◌, List, [], ◌∷◌, ◌++◌, Option, Some, None, Result, IfOk, MatchResult}
 use Rattle.std.specs.declared.alloc.AllocError.{AllocError}
 use Rattle.par_tree.specs.Tree.{Func, Stmt}
-use Rattle.thread_points.specs.Passed.States.{Setting, State, Item, printed}
-use Rattle.thread_points.specs.Passed.Run.{actions_of}
-use Rattle.thread_points.specs.Passed.Middle as middles
-use Rattle.thread_points.specs.Passed.Middle.{Middle, before_all, step_frame, step_statement}
+use Rattle.thread_state.specs.Passed.States.{Setting, State, Item, printed}
+use Rattle.thread_state.specs.Passed.Run.{actions_of}
+use Rattle.thread_state.specs.Passed.Middle as middles
+use Rattle.thread_state.specs.Passed.Middle.{Middle, before_all, step_frame, step_statement}
 use Rattle.node_table.specs.Names.{slot_names}
 use Rattle.node_table.specs.Table.{Table}
 use Rattle.thread_points.specs.Threads.{IsThread, open_children}

@@ -2,9 +2,9 @@
 use Rattle.std.specs.Prelude.{◌≡◌, ℕ, List, Result, MatchResult}
 use Rattle.std.specs.declared.alloc.AllocError.{AllocError}
 use Rattle.par_tree.specs.Tree.{Func}
-use Rattle.thread_points.specs.Passed.States.{Setting, State}
-use Rattle.thread_points.specs.Passed.Middle as middles
-use Rattle.thread_points.specs.Passed.Middle.{Middle, step_frame}
+use Rattle.thread_state.specs.Passed.States.{Setting, State}
+use Rattle.thread_state.specs.Passed.Middle as middles
+use Rattle.thread_state.specs.Passed.Middle.{Middle, step_frame}
 use Rattle.node_table.specs.Table.{Table}
 use Rattle.thread_points.specs.Points.{marked}
 use Rattle.thread_stack.specs.declared.frame.Frame.{Frame}

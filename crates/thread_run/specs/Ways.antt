@@ -3,12 +3,10 @@ use Rattle.std.specs.Prelude.{◌≡◌, ◌≤◌, ◌⊎◌, ℕ, false, List,
 use Rattle.node_table.specs.Table.{Table}
 use Rattle.thread_stack.specs.declared.frame.Frame.{Frame}
 use Rattle.thread_state.specs.States.{own_row}
-use Rattle.flat_statements.specs.Flat.{frames_at}
-use Rattle.flat_statements.specs.Threads.{standing}
-use Rattle.flat_statements.specs.Follows.{Steps}
-use Rattle.flat_code.specs.Shown.{flat_shown}
-use Rattle.flat_program.specs.declared.flat_list.FlatList.{FlatList}
-use Rattle.flat_program.specs.Programs.{BeginsAt}
+use Rattle.flat_threads.specs.Passed.Threads.{standing}
+use Rattle.flat_threads.specs.Passed.Follows.{Steps}
+use Rattle.thread_code.specs.Passed.FlatList.{FlatList}
+use Rattle.thread_code.specs.Passed.Programs.{BeginsAt, mark_at}
 use Rattle.flat_threads.specs.Along.{DiffersInRow}
 use Rattle.thread_run.specs.declared.run.ThreadRun.{ThreadRun}
 use Rattle.thread_run.specs.Functions.{frames_of}
@@ -20,7 +18,7 @@ pub record BeginsFlat (t : Table) (run : ThreadRun) (l : FlatList) (place left :
   pub begins : BeginsAt t l place
   pub long : length (own_row run.state) ≡ l.slots
   pub within : left ≤ vec_len run.frames
-  pub mark : frames_of run ≡ frames_at (flat_shown l.places.items) place ++ reverse (take left run.frames.items)
+  pub mark : frames_of run ≡ mark_at l place ++ reverse (take left run.frames.items)
 
 -- A thread that no fault ended has gone a way inside its function: it has the frames `to` in place of `from`, with the same ones below, and
 -- the row and the turns of the end of the way.

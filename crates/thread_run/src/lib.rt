@@ -64,3 +64,4 @@ pub use frames::{allocates, dummies, rejoins};
 pub use ready::{Forking, Ready};
 pub use run::ThreadRun;
 pub use statements::statement;
+pub use thread_code::Code;

@@ -1,7 +1,7 @@
 //! What a step puts before what is left, and what it prints.
 
 ghost use Rattle.std.specs.Prelude.{◌≡◌, ◌<◌, ◌≤◌, ◌++◌, ◌∷◌, [], List, None, OnOk, IfOk};
-ghost use Rattle.thread_points.specs.Passed.States.{Item, printed};
+ghost use Rattle.thread_state.specs.Passed.States.{Item, printed};
 ghost use Rattle.thread_stack.specs.Frames.{frames_shown};
 ghost use Rattle.thread_output.specs.Telling.{Tells};
 ghost use Rattle.thread_run.specs.Stepping.{frames_with, ready_of, told_by};

@@ -8,39 +8,39 @@ ghost use Rattle.thread_stack.specs.Measure.{frames_cost, list_cost, node_cost};
 
 use crate::frame::Frame;
 use crate::list_of::ListOf;
-use node_table::{Code, FuncCode, NodeKind};
+use node_table::{FuncCode, NodeKind, NodeTable};
 
 /// The numbers of the statements of a list, in their order; none where the code has no such list.
 #[inline(always)]
-pub fn numbers(code: &Code, list: ListOf) -> &[u32]
-    ensures { result.now ≡ numbers_of (code_shown code.now) list }
+pub fn numbers(table: &NodeTable, list: ListOf) -> &[u32]
+    ensures { result.now ≡ numbers_of (code_shown table.now) list }
 {
     match list {
-        ListOf::Body(func) => match code.func(func) {
+        ListOf::Body(func) => match table.func(func) {
             Some(func) => &func.body,
             None => &[],
         },
-        ListOf::Then(node) => match kind(code, node) {
+        ListOf::Then(node) => match kind(table, node) {
             Some(NodeKind::If { then, .. }) => then,
             _ => &[],
         },
-        ListOf::Other(node) => match kind(code, node) {
+        ListOf::Other(node) => match kind(table, node) {
             Some(NodeKind::If { other, .. }) => other,
             _ => &[],
         },
-        ListOf::Round(node) => match kind(code, node) {
+        ListOf::Round(node) => match kind(table, node) {
             Some(NodeKind::While { body, .. }) => body,
             _ => &[],
         },
-        ListOf::Left(node) => match kind(code, node) {
+        ListOf::Left(node) => match kind(table, node) {
             Some(NodeKind::Both { left, .. }) => left,
             _ => &[],
         },
-        ListOf::Right(node) => match kind(code, node) {
+        ListOf::Right(node) => match kind(table, node) {
             Some(NodeKind::Both { right, .. }) => right,
             _ => &[],
         },
-        ListOf::Inside(node) => match kind(code, node) {
+        ListOf::Inside(node) => match kind(table, node) {
             Some(NodeKind::Split { body, .. }) => body,
             _ => &[],
         },
@@ -48,27 +48,27 @@ pub fn numbers(code: &Code, list: ListOf) -> &[u32]
 }
 
 /// What the node of a number does, where there is one.
-fn kind(code: &Code, node: u32) -> Option<&NodeKind>
-    ensures { kinds_shown (option_copied result) ≡ kind_at (code_shown code.now) node }
+fn kind(table: &NodeTable, node: u32) -> Option<&NodeKind>
+    ensures { kinds_shown (option_copied result) ≡ kind_at (code_shown table.now) node }
 {
-    match code.node(node) {
+    match table.node(node) {
         Some(node) => Some(&node.kind),
         None => None,
     }
 }
 
 /// The frame for the statements of a list from a place on; None exactly where there are none.
-pub fn frame_from(code: &Code, list: ListOf, next: usize) -> Option<Frame>
-    ensures some { IsSome result ↔ (next < length (numbers_of (code_shown code.now) list)) }
+pub fn frame_from(table: &NodeTable, list: ListOf, next: usize) -> Option<Frame>
+    ensures some { IsSome result ↔ (next < length (numbers_of (code_shown table.now) list)) }
     ensures frame { IfSome result (λ frame. frame ≡ Frame.Statements list next) }
     ensures frames { (p : Program) (gs : List Func) (b : BodyTree) (xs : List Frame) (fs : List RunFrame)
-        → AreStatements p (code_shown code.now) (names_now gs) (numbers_from (code_shown code.now) list next) b
-        → AreFrames p (code_shown code.now) gs xs fs
-        → AreFrames p (code_shown code.now) gs (frames_shown result ++ xs) (before_all b fs) }
-    ensures cost { frames_cost (code_shown code.now) (frames_shown result)
-        ≤ list_cost (node_cost (code_shown code.now)) (numbers_from (code_shown code.now) list next) }
+        → AreStatements p (code_shown table.now) (names_now gs) (numbers_from (code_shown table.now) list next) b
+        → AreFrames p (code_shown table.now) gs xs fs
+        → AreFrames p (code_shown table.now) gs (frames_shown result ++ xs) (before_all b fs) }
+    ensures cost { frames_cost (code_shown table.now) (frames_shown result)
+        ≤ list_cost (node_cost (code_shown table.now)) (numbers_from (code_shown table.now) list next) }
 {
-    if next < numbers(code, list).len() {
+    if next < numbers(table, list).len() {
         Some(Frame::Statements { list, next })
     } else {
         None

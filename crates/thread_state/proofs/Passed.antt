@@ -7,3 +7,4 @@ pub use Rattle.depth_first_run.proofs.Stepping as Stepping
 pub use Rattle.depth_first_run.proofs.Words as Words
 pub use Rattle.slot_store.proofs.Agreement as Agreement
 pub use Rattle.slot_store.proofs.Held as Held
+pub use Rattle.slot_store.proofs.Rows as Rows

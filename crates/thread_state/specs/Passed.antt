@@ -1,10 +1,16 @@
 -- What callers need of what this crate stands on.
+pub use Rattle.dag_order.specs.declared.fault.FaultKind as FaultKind
 pub use Rattle.depth_first_run.specs.Calls as DepthFirstRunCalls
 pub use Rattle.depth_first_run.specs.Middle as Middle
 pub use Rattle.depth_first_run.specs.Run as Run
 pub use Rattle.depth_first_run.specs.States as States
 pub use Rattle.depth_first_run.specs.Stores as Stores
+pub use Rattle.depth_first_run.specs.Values as Values
+pub use Rattle.node_table.specs.Names as Names
+pub use Rattle.node_table.specs.Programs as Programs
+pub use Rattle.node_table.specs.Table as Table
 pub use Rattle.slot_store.specs.Agreement as Agreement
 pub use Rattle.slot_store.specs.Calls as SlotStoreCalls
 pub use Rattle.slot_store.specs.Forks as Forks
 pub use Rattle.slot_store.specs.Rows as Rows
+pub use Rattle.slot_store.specs.Shown as Shown

@@ -2,7 +2,7 @@
 use Rattle.std.specs.Prelude.{◌≡◌, ◌+◌, ◌<◌, ◌≤◌, false, None, Some, [], Result, Ok, Err}
 use Rattle.containers.specs.BoundedList.{entries}
 use Rattle.deque_list.specs.declared.deque_id.DequeId.{DequeId}
-use Rattle.node_table.specs.declared.code.Code.{Code}
+use Rattle.node_table.specs.declared.node_table.NodeTable.{NodeTable}
 use Rattle.turn_table.specs.Hands.{fresh}
 use Rattle.turn_table.specs.Tables.{key_of, slot_count, IsSeatOf}
 use Rattle.hall_slots.specs.Passed.HallMachineNumbers.{IsSmallestNumber}
@@ -22,7 +22,7 @@ pub record IsHall (hall : Hall) : Type 0 where
   pub limit : (key_of hall.row).actions ≡ hall.limit
 
 -- the program that the hall runs
-abbrev pub IsProgramOf : Hall → Code → Type 0
+abbrev pub IsProgramOf : Hall → NodeTable → Type 0
 IsProgramOf hall code = (key_of hall.row).code.value ≡ code
 
 -- It is a seat of this hall, which holds nothing, and is in; what it says of itself is what it notes. Its deque has a slot, and the list of births

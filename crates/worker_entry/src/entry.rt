@@ -14,9 +14,9 @@ use block_arena::Pool;
 use deque_list::Order;
 use dfd_core::{Core, CoreParts};
 use hall_slots::{HallKey, HallPlace, HallRow, open_row};
-use node_table::Code;
 use std::alloc::{AllocError, Global};
 use std::snapshot::Snapshot;
+use thread_frames::Code;
 
 /// The program, for contracts alone.
 fn shown_code(code: &Code) -> Snapshot<Code>

@@ -10,8 +10,8 @@ use crate::hall::Hall;
 use crate::seat::Seat;
 use dfd_core::Core;
 use hall_owner::SeatMemory;
-use node_table::Code;
 use std::alloc::{AllocError, Global};
+use thread_frames::Code;
 
 impl Hall {
     /// The hall of a core that has done no step, its program, and its first seat, which has the places of all workers.

@@ -11,7 +11,7 @@ use crate::seat::Seat;
 use deque_list::DequeId;
 use hall_owner::{ActRefused, act};
 use hall_slots::Event;
-use node_table::Code;
+use thread_frames::Code;
 
 impl Hall {
     /// Does the next event of a worker that owns a deque: its top thread does its next action, or waits for a child, or the deque is given up. The

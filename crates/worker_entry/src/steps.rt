@@ -9,7 +9,7 @@ use crate::refused::EventRefused;
 use crate::seat::Seat;
 use deque_list::DequeId;
 use hall_owner::{ActRefused, step_on};
-use node_table::Code;
+use thread_frames::Code;
 
 impl Hall {
     /// Lets the top thread of a worker's deque go on towards its next action for some `most` turns of loops and calls, and says whether it

@@ -29,12 +29,11 @@ use containers::Boxed;
 use depth_first_list::Quota;
 use deque_list::DequeId;
 use language_limits::RECORD_WORDS;
-use node_table::Code;
 use play_rules::Stop;
 use scheduler_state::{Event, Scheduler};
 use std::alloc::Global;
 use thread_actions::{advance, take_result};
-use thread_frames::{Next, Thread};
+use thread_frames::{Code, Next, Thread};
 
 /// The words that an action takes.
 fn words_taken(next: Next) -> u32

@@ -13,9 +13,9 @@ use Rattle.flat_code.proofs.lowering.lower_whole.Goals as goal
 
 pub returns-clause-code : goal.returns-clause-code
 returns-clause-code c =
-    let t = code_shown c.args.code.now in
+    let t = code_shown c.args.table.now in
     let k = c.args.slots in
-    let deep : c.len.result ≡ length t.nodes = c.len.ensures ∙ sym (length-map (nodes_of c.args.code.now) node_shown) in
+    let deep : c.len.result ≡ length t.nodes = c.len.ensures ∙ sym (length-map (nodes_of c.args.table.now) node_shown) in
     let inside =
     c.in_ok-places.ensures.places
     ∙ ap (λ ns. list_made (node_made t k c.len.result) ns c.args.list 0 [] 0) c.numbers-inside.ensures
@@ -25,7 +25,7 @@ returns-clause-code c =
 
 pub returns-clause-forward : goal.returns-clause-forward
 returns-clause-forward c =
-    let t = code_shown c.args.code.now in
+    let t = code_shown c.args.table.now in
     let k = c.args.slots in
     let inside = c.in_ok-places.ensures.places ∙ ap (λ ns. list_made (node_made t k c.len.result) ns c.args.list 0 [] 0) c.numbers-inside.ensures in
     made_forward t k c.len.result c.args.list (places_shown c.add_place.new.places.items)
@@ -33,9 +33,9 @@ returns-clause-forward c =
 
 pub returns-clause-begins : goal.returns-clause-begins
 returns-clause-begins c =
-    let t = code_shown c.args.code.now in
+    let t = code_shown c.args.table.now in
     let k = c.args.slots in
-    let deep : c.len.result ≡ length t.nodes = c.len.ensures ∙ sym (length-map (nodes_of c.args.code.now) node_shown) in
+    let deep : c.len.result ≡ length t.nodes = c.len.ensures ∙ sym (length-map (nodes_of c.args.table.now) node_shown) in
     let inside =
     c.in_ok-places.ensures.places
     ∙ ap (λ ns. list_made (node_made t k c.len.result) ns c.args.list 0 [] 0) c.numbers-inside.ensures

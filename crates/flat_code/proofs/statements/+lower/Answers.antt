@@ -17,7 +17,7 @@ lower_node-returns-clause-places t c =
     let scope = c.args.scope.now in
     let site = c.args.site.now in
     let there : kind_at (table_of scope) site.number ≡ Some (kind_shown c.in-Some.node.now.kind) =
-    kind_there (nodes_of scope.code.now) site.number c.in-Some.node.now (sym c.node.ensures ∙ ap option_copied c.in-Some.is) in
+    kind_there (nodes_of scope.table.now) site.number c.in-Some.node.now (sym c.node.ensures ∙ ap option_copied c.in-Some.is) in
     IfOk-weaker c.lower_kind.result _ _
     (λ v made.
     made
@@ -30,7 +30,7 @@ lower_node-returns-clause-long t c =
     let scope = c.args.scope.now in
     let site = c.args.site.now in
     let there : kind_at (table_of scope) site.number ≡ Some (kind_shown c.in-Some.node.now.kind) =
-    kind_there (nodes_of scope.code.now) site.number c.in-Some.node.now (sym c.node.ensures ∙ ap option_copied c.in-Some.is) in
+    kind_there (nodes_of scope.table.now) site.number c.in-Some.node.now (sym c.node.ensures ∙ ap option_copied c.in-Some.is) in
     let same = made_by_kind (table_of scope) scope.slots scope.size c.args.depth site.place site.number (frames_shown site.here.now)
     (frames_shown site.behind.now) (kind_shown c.in-Some.node.now.kind) c.requires there in
     if_too_long c.lower_kind.result _ _ (λ h. subst (λ (ps : List Placed). most_places ≤ site.place + length ps) same h) c.lower_kind.ensures.long

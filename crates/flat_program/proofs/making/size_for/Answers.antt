@@ -7,4 +7,4 @@ use Rattle.flat_program.proofs.making.size_for.Goals as goal
 pub returns-clause-none : goal.returns-clause-none
 returns-clause-none c none size low less is =
     let end : MOST_NUMBERS ≤ c.loop-more.more = search rules in
-    none_serves (code_shown c.args.code.now) c.args.slots c.loop-more.more c.args.list c.loop-more.invariant size (omega (arith, low, end)) less is
+    none_serves (code_shown c.args.table.now) c.args.slots c.loop-more.more c.args.list c.loop-more.invariant size (omega (arith, low, end)) less is

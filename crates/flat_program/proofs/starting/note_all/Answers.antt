@@ -11,6 +11,6 @@ loop-place-preserved c =
     let keeps = c.note_at.ensures.keeps in (
       λ ls is all. c.note_at.ensures.starts ls is (before.0 ls is all),
       keeps_both first old new before.1 keeps,
-      λ some entry begins within. noted_next (code_shown c.args.code.now) c.args.flat.now first old new c.loop-place.place entry before.1 keeps before.2
+      λ some entry begins within. noted_next (code_shown c.args.table.now) c.args.flat.now first old new c.loop-place.place entry before.1 keeps before.2
           c.note_at.ensures.has begins within,
     )

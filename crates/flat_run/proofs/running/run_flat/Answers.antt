@@ -1,7 +1,7 @@
 use Rattle.std.proofs.Common.{◌≡◌, length, slice_get, Some, refl, sym, ap, ◌∙◌, subst, rules}
 use Rattle.std.proofs.lemmas.Option.{slice_get_read, slice_get_within, slice_get_past}
 use Rattle.slot_store.specs.Shown.{slots_shown}
-use Rattle.flat_statements.specs.Flat.{step_at, arrived}
+use Rattle.flat_code.specs.Passed.Flat.{step_at, arrived}
 use Rattle.flat_code.specs.Shown.{flat_shown, instruction_shown}
 use Rattle.flat_run.specs.Ran.{at_point, RanTo}
 use Rattle.flat_run.proofs.Forward.{what_at, none_at, one_more, falls}

@@ -1,6 +1,6 @@
 use Rattle.std.proofs.Common.{length}
 use Rattle.slot_store.specs.Shown.{slots_shown}
-use Rattle.flat_statements.specs.Flat.{Runs}
+use Rattle.flat_code.specs.Passed.Flat.{Runs}
 use Rattle.flat_code.specs.Shown.{flat_shown}
 use Rattle.flat_run.specs.Ran.{at_point}
 use Rattle.flat_run.proofs.Forward.{left_from}

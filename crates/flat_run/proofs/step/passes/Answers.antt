@@ -1,7 +1,7 @@
 use Rattle.std.proofs.Common.{sym, ap, ◌∙◌, w64, rules}
 use Rattle.std.proofs.lemmas.Int.{to_z-of_z}
 use Rattle.par_tree.specs.View.{cmp_op_tree}
-use Rattle.depth_first_run.specs.Values.{is_true}
+use Rattle.slot_store.specs.Passed.Values.{is_true}
 use Rattle.slot_store.specs.Shown.{slots_shown}
 use Rattle.flat_expressions.specs.Acts.{operand_in, passes}
 use Rattle.flat_expressions.specs.Shown.{operand_shown}

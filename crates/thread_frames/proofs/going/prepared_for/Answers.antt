@@ -1,5 +1,5 @@
 use Rattle.std.proofs.Common.{refl, sym, subst}
-use Rattle.thread_code.specs.Codes.{code_shown}
+use Rattle.node_table.specs.Codes.{code_shown}
 use Rattle.thread_run.specs.declared.ready.Ready.{Ready}
 use Rattle.thread_frames.specs.Preparing.{Prepares}
 use Rattle.thread_frames.specs.declared.prepared.Prepared.TheVariants.{Fork, Join}

@@ -1,4 +1,4 @@
-use Rattle.thread_code.specs.Codes.{code_shown}
+use Rattle.node_table.specs.Codes.{code_shown}
 use Rattle.thread_frames.proofs.Beginning.{begins_main}
 use Rattle.thread_frames.proofs.going.run_of_main.Goals as goal
 

@@ -1,7 +1,7 @@
 use Rattle.std.proofs.Common.{Option, sym, ◌∙◌, ap}
 use Rattle.std.specs.Option.{option_map}
 use Rattle.std.proofs.lemmas.Option.{slice_get-map}
-use Rattle.thread_code.specs.Codes.{funcs_of}
+use Rattle.node_table.specs.Codes.{funcs_of}
 use Rattle.node_table.specs.Shown.{func_shown}
 use Rattle.node_table.specs.declared.func_code.FuncCode.{FuncCode}
 use Rattle.thread_frames.proofs.Beginning.{same_slots, no_function_there}

@@ -4,8 +4,8 @@ use Rattle.depth_first_list.specs.Leaves.{IsTreeSize}
 use Rattle.depth_first_list.specs.Shapes.{Shape, shape_of}
 use Rattle.depth_first_list.specs.TreeLeaves.{tree_leaves}
 use Rattle.depth_first_list.specs.Runs.{tree_for}
-use Rattle.thread_points.specs.Passed.Stores.{block_words}
-use Rattle.thread_points.specs.Passed.Middle.{middle, does, tree, allocates, allocated, step_alloc_words}
+use Rattle.thread_state.specs.Passed.Stores.{block_words}
+use Rattle.thread_state.specs.Passed.Middle.{middle, does, tree, allocates, allocated, step_alloc_words}
 use Rattle.thread_stack.specs.declared.frame.Frame.TheVariants.{Tree, Allocates}
 use Rattle.thread_run.specs.declared.ready.Ready.TheVariants.{Alloc}
 use Rattle.thread_run.specs.declared.done.Done.TheVariants.{Silent, Acts}

@@ -1,8 +1,8 @@
 use Rattle.std.proofs.Common.{◌≡◌, ◌<◌, ◌≤◌, ◌∙◌, refl, sym, ap, arith, length}
 use Rattle.std.specs.Prelude.{nat_lt}
 use Rattle.dag_order.specs.declared.fault.FaultKind.TheVariants as faults
-use Rattle.thread_points.specs.Passed.Run.{names_in, assigns_in}
-use Rattle.thread_points.specs.Passed.Middle.{statements, step_par}
+use Rattle.thread_state.specs.Passed.Run.{names_in, assigns_in}
+use Rattle.thread_state.specs.Passed.Middle.{statements, step_par}
 use Rattle.node_table.specs.Names.{slot_names}
 use Rattle.thread_run.proofs.Coming.{faulted, forks_now, forks_never, left_branch, right_branch}
 use Rattle.thread_run.proofs.acts.both.Goals as goal

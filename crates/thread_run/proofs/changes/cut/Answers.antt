@@ -1,10 +1,10 @@
 use Rattle.std.proofs.Common.{ℤ, SFits, to_z, of_z, w64, rules, ◌≡◌, ◌∷◌, ◌∙◌, refl, subst}
 use Rattle.std.specs.Prelude.{map}
 use Rattle.std.proofs.lemmas.Int.{to_z-of_z}
-use Rattle.thread_points.specs.Passed.States.{State}
-use Rattle.thread_points.specs.Passed.Stores.{block_of}
-use Rattle.thread_points.specs.Passed.Run.{cut_of}
-use Rattle.thread_points.specs.Passed.Middle.{rejoins, step_split}
+use Rattle.thread_state.specs.Passed.States.{State}
+use Rattle.thread_state.specs.Passed.Stores.{block_of}
+use Rattle.thread_state.specs.Passed.Run.{cut_of}
+use Rattle.thread_state.specs.Passed.Middle.{rejoins, step_split}
 use Rattle.node_table.specs.Names.{slot_names, name_at}
 use Rattle.node_table.specs.Codes.{code_shown}
 use Rattle.thread_stack.specs.declared.frame.Frame.TheVariants.{Rejoins}

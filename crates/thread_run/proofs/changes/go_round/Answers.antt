@@ -1,7 +1,7 @@
 use Rattle.std.proofs.Common.{◌≡◌, ◌∷◌, ◌∙◌, ℕ, suc, Some, refl, sym, arith}
 use Rattle.std.specs.Prelude.{map}
 use Rattle.par_tree.specs.Tree.{step, while_stmt, done, Body}
-use Rattle.thread_points.specs.Passed.Middle.{middle, before_all, step_turn}
+use Rattle.thread_state.specs.Passed.Middle.{middle, before_all, step_turn}
 use Rattle.node_table.specs.Names.{slot_names}
 use Rattle.node_table.specs.Codes.{code_shown}
 use Rattle.thread_stack.specs.declared.frame.Frame.TheVariants.{Again}

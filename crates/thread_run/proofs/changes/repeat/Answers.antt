@@ -2,8 +2,8 @@ use Rattle.std.proofs.Common.{◌≡◌, ◌∷◌, ◌∙◌, ℤ, Ok, None, SF
 use Rattle.std.proofs.lemmas.Int.{to_z-of_z}
 use Rattle.std.specs.Prelude.{map}
 use Rattle.par_tree.specs.Tree.{step, while_stmt, done, Body}
-use Rattle.thread_points.specs.Passed.Values.{value}
-use Rattle.thread_points.specs.Passed.Middle.{middle, before_all, step_with_number, step_while, step_round, step_turn}
+use Rattle.thread_state.specs.Passed.Values.{value}
+use Rattle.thread_state.specs.Passed.Middle.{middle, before_all, step_with_number, step_while, step_round, step_turn}
 use Rattle.node_table.specs.Names.{slot_names}
 use Rattle.node_table.specs.Codes.{code_shown}
 use Rattle.thread_run.specs.declared.done.Done.TheVariants.{Silent}

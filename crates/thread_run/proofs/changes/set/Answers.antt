@@ -1,9 +1,9 @@
 use Rattle.std.proofs.Common.{◌≡◌, ◌∷◌, ◌∙◌, refl, sym, subst}
 use Rattle.std.specs.Prelude.{map}
-use Rattle.thread_points.specs.Passed.States.{with_number}
-use Rattle.thread_points.specs.Passed.Values.{value}
-use Rattle.thread_points.specs.Passed.Run.{set_integer}
-use Rattle.thread_points.specs.Passed.Middle.{middle}
+use Rattle.thread_state.specs.Passed.States.{with_number}
+use Rattle.thread_state.specs.Passed.Values.{value}
+use Rattle.thread_state.specs.Passed.Run.{set_integer}
+use Rattle.thread_state.specs.Passed.Middle.{middle}
 use Rattle.node_table.specs.Names.{slot_names, name_at}
 use Rattle.par_tree.specs.Tree.{Name}
 use Rattle.thread_run.specs.Dones.{Comes, settled_done}

@@ -1,6 +1,6 @@
 use Rattle.std.proofs.Common.{◌∙◌, ap}
 use Rattle.depth_first_list.specs.Shapes.{Shape}
-use Rattle.thread_points.specs.Passed.Middle.{does, tree}
+use Rattle.thread_state.specs.Passed.Middle.{does, tree}
 use Rattle.thread_run.proofs.Trees.{dummy_comes, fork_comes}
 use Rattle.thread_run.proofs.frames.dummies.Goals as goal
 

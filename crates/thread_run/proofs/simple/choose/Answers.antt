@@ -1,8 +1,8 @@
 use Rattle.std.proofs.Common.{◌≡◌, ◌∷◌, ◌∙◌, ℤ, Ok, SFits, to_z, of_z, w64, rules, ap}
 use Rattle.std.proofs.lemmas.Int.{to_z-of_z}
 use Rattle.std.specs.Prelude.{map}
-use Rattle.thread_points.specs.Passed.Values.{value}
-use Rattle.thread_points.specs.Passed.Middle.{step_with_number, step_if, step_branch}
+use Rattle.thread_state.specs.Passed.Values.{value}
+use Rattle.thread_state.specs.Passed.Middle.{step_with_number, step_if, step_branch}
 use Rattle.node_table.specs.Names.{slot_names}
 use Rattle.node_table.specs.Codes.{code_shown}
 use Rattle.thread_run.proofs.Coming.{at_point, number_is}

@@ -1,10 +1,10 @@
 use Rattle.std.proofs.Common.{◌≡◌, ◌∷◌, ◌∙◌, ℤ, Ok, SFits, to_z, of_z, w64, rules, refl, ap}
 use Rattle.std.proofs.lemmas.Int.{to_z-of_z}
 use Rattle.std.specs.Prelude.{map}
-use Rattle.thread_points.specs.Passed.Values.{value}
-use Rattle.thread_points.specs.Passed.Run.{print_number}
-use Rattle.thread_points.specs.Passed.Middle.{middle}
-use Rattle.thread_points.specs.Passed.States.{State, with_number}
+use Rattle.thread_state.specs.Passed.Values.{value}
+use Rattle.thread_state.specs.Passed.Run.{print_number}
+use Rattle.thread_state.specs.Passed.Middle.{middle}
+use Rattle.thread_state.specs.Passed.States.{State, with_number}
 use Rattle.node_table.specs.Names.{slot_names}
 use Rattle.thread_run.specs.declared.done.Done.TheVariants.{Prints}
 use Rattle.thread_run.proofs.Coming.{at_point, items_aside, faulted, state_number_is, state_fault_is}

@@ -1,5 +1,5 @@
 use Rattle.std.proofs.Common.{◌∷◌, sym, ap}
-use Rattle.thread_points.specs.Passed.Middle.{middle, before_all, step_branch}
+use Rattle.thread_state.specs.Passed.Middle.{middle, before_all, step_branch}
 use Rattle.node_table.specs.Codes.{code_shown}
 use Rattle.thread_run.proofs.Coming.{at_point}
 use Rattle.thread_run.proofs.simple.take_arm.Goals as goal

@@ -11,7 +11,7 @@ pub returns-in-Ok-clause-has : goal.returns-in-Ok-clause-has
 returns-in-Ok-clause-has c =
     let made = c.in-Ok.ensures.code in
     IfOk-weaker c.put.result _ _
-    (λ v h. put_has (code_shown c.args.code.now) c.args.self.now.lists.items c.put.new.self.lists.items c.in-Ok.flat c.args.slots c.args.list h made.0 made.1)
+    (λ v h. put_has (code_shown c.args.table.now) c.args.self.now.lists.items c.put.new.self.lists.items c.in-Ok.flat c.args.slots c.args.list h made.0 made.1)
     c.put.ensures.lists
 
 pub returns-in_default-clause-begins : goal.returns-in_default-clause-begins
@@ -19,7 +19,7 @@ returns-in_default-clause-begins c can few = absurd (c.in_default.ensures.none r
 
 pub returns-in-Ok-clause-begins : goal.returns-in-Ok-clause-begins
 returns-in-Ok-clause-begins c =
-    let t = code_shown c.args.code.now in
+    let t = code_shown c.args.table.now in
     let made = c.in-Ok.ensures.code in
     IfOk-weaker c.put.result _ _
     (λ v h. put_begins t c.args.self.now c.put.new.self c.in-Ok.flat c.args.slots c.args.list made.1 h.0 h.1)

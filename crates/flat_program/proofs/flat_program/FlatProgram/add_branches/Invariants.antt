@@ -6,5 +6,5 @@ use Rattle.flat_program.proofs.flat_program.FlatProgram.add_branches.Given as go
 
 abbrev pub invariant-loop-slots : goal.invariant-loop-slots
 invariant-loop-slots l =
-    IsFlatProgram (code_shown l.fn.code) l.self × Grows l.initial.self.lists.items l.self.lists.items
+    IsFlatProgram (code_shown l.fn.table) l.self × Grows l.initial.self.lists.items l.self.lists.items
     × KeepsStarts l.initial.self.starts.items l.self.starts.items

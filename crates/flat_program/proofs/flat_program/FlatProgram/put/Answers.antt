@@ -8,7 +8,7 @@ use Rattle.flat_program.proofs.flat_program.FlatProgram.put.Goals as goal
 
 pub returns-clause-program : goal.returns-clause-program
 returns-clause-program c =
-    let t = code_shown c.args.code.now in
+    let t = code_shown c.args.table.now in
     let before = c.args.self.now.lists.items in
     let flat = c.args.flat in
     let number : c.in-Ok.number ≡ length before = search rules in

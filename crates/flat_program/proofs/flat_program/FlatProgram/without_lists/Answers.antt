@@ -9,7 +9,7 @@ use Rattle.flat_program.proofs.flat_program.FlatProgram.without_lists.Goals as g
 
 pub loop-number-preserved : goal.loop-number-preserved
 loop-number-preserved c =
-    let t = code_shown c.args.code.now in
+    let t = code_shown c.args.table.now in
     let old = c.loop-number.starts.items in
     let items : c.push-in-loop-number.new.self.items ≡ (old ++ None ∷ []) ++ None ∷ [] = search rules in
     let long = ap (λ (starts : List (Option FlatStart)). length starts) items ∙ two_longer old None None in
@@ -21,5 +21,5 @@ loop-number-preserved c =
 
 pub returns-clause-sized : goal.returns-clause-sized
 returns-clause-sized c =
-    let end : c.loop-number._number ≡ length (nodes_of c.args.code.now) = search rules in
-    all_sized c.args.code.now c.loop-number._number (length c.loop-number.starts.items) c.loop-number.invariant.1 end
+    let end : c.loop-number._number ≡ length (nodes_of c.args.table.now) = search rules in
+    all_sized c.args.table.now c.loop-number._number (length c.loop-number.starts.items) c.loop-number.invariant.1 end

@@ -7,4 +7,4 @@ use Rattle.flat_program.proofs.flat_program.FlatProgram.without_lists.Given as g
 
 -- no list is asked for yet, and each node that was counted has its two entries
 abbrev pub invariant-loop-number : goal.invariant-loop-number
-invariant-loop-number l = ((ls : List FlatList) → All (StartsIn (code_shown l.fn.code) ls) l.starts.items) × (length l.starts.items ≡ l._number * 2)
+invariant-loop-number l = ((ls : List FlatList) → All (StartsIn (code_shown l.fn.table) ls) l.starts.items) × (length l.starts.items ≡ l._number * 2)

@@ -1,7 +1,7 @@
 use Rattle.std.proofs.Common.{sym}
 use Rattle.std.proofs.Math.Logic.{∥∥₁_map}
 use Rattle.thread_frames.proofs.Listing.{of_list, joins_newest}
-use Rattle.thread_code.specs.Codes.{code_shown}
+use Rattle.node_table.specs.Codes.{code_shown}
 use Rattle.thread_frames.proofs.thread.Thread.advance.Goals as goal
 
 pub returns-in-Some-clause-list : goal.returns-in-Some-clause-list

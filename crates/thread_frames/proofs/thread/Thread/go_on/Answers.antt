@@ -1,5 +1,5 @@
 use Rattle.std.proofs.Common.{◌≡◌, Option, sym, subst}
-use Rattle.thread_code.specs.Codes.{code_shown}
+use Rattle.node_table.specs.Codes.{code_shown}
 use Rattle.thread_run.specs.Functions.{functions_of, frames_of}
 use Rattle.thread_run.specs.Stepping.{ComesTo, frames_left}
 use Rattle.thread_run.specs.declared.ready.Ready.{Ready}

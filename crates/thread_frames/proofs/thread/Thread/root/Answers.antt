@@ -1,5 +1,5 @@
 use Rattle.std.proofs.Common.{List, None, sym, subst}
-use Rattle.thread_code.specs.Codes.{code_shown}
+use Rattle.node_table.specs.Codes.{code_shown}
 use Rattle.thread_frames.specs.Points.{At}
 use Rattle.thread_frames.specs.declared.open_child.OpenChild.{OpenChild}
 use Rattle.thread_frames.specs.declared.prepared.Prepared.TheVariants.{Nothing}

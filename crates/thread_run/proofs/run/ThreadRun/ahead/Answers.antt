@@ -2,12 +2,11 @@ use Rattle.std.proofs.Common.{inl, inr, ◌+◌, ◌<◌, ◌++◌, List, take, 
 use Rattle.std.specs.Prelude.{reverse}
 use Rattle.node_table.specs.Codes.{code_shown}
 use Rattle.thread_stack.specs.declared.frame.Frame.{Frame}
-use Rattle.slot_store.specs.Shown.{slots_shown}
+use Rattle.thread_state.specs.Passed.Shown.{slots_shown}
 use Rattle.thread_state.specs.States.{own_row}
 use Rattle.thread_state.specs.declared.state.ThreadState.{ThreadState}
-use Rattle.flat_statements.specs.Flat.{frames_at}
-use Rattle.flat_code.specs.Shown.{flat_shown}
 use Rattle.flat_threads.specs.Along.{DiffersInRow}
+use Rattle.thread_code.specs.Passed.Programs.{mark_at}
 use Rattle.thread_run.specs.Ways.{BeginsFlat, GoesAlong}
 use Rattle.thread_run.specs.declared.run.ThreadRun.{ThreadRun}
 use Rattle.thread_run.proofs.Ways.{along, few_turns, counts_kept, functions_kept}
@@ -38,7 +37,7 @@ returns-clause-way c =
     (along t old _ l c.in-Some.place left c.saturating_sub-kept.result stop c.in-Some.ensures
     (record { label = refl; done_so_far = refl; forks = refl; faulted = refl; callers = refl; calls = refl }) (search rules) refl
     (c.in_ok-stopped.ensures.thread t c.in-Some.ensures.begins)
-    (c.push_mark.ensures ∙ ap (λ (xs : List Frame). frames_at (flat_shown l.places.items) stop.place ++ reverse xs) items) refl refl)
+    (c.push_mark.ensures ∙ ap (λ (xs : List Frame). mark_at l stop.place ++ reverse xs) items) refl refl)
 
 pub returns-clause-counts : goal.returns-clause-counts
 returns-clause-counts c =
@@ -55,7 +54,7 @@ returns-clause-counts c =
     let items = c.truncate.ensures.items ∙ ap (λ (xs : List Frame). take left xs) c.reserve.ensures.items in
     let same : DiffersInRow old.state state = record { label = refl; done_so_far = refl; forks = refl; faulted = refl; callers = refl; calls = refl } in
     let h : GoesAlong t old after = along t old after l place left kept stop b same (search rules) refl (c.in_ok-stopped.ensures.thread t b.begins)
-    (c.push_mark.ensures ∙ ap (λ (xs : List Frame). frames_at (flat_shown l.places.items) stop.place ++ reverse xs) items) refl refl in
+    (c.push_mark.ensures ∙ ap (λ (xs : List Frame). mark_at l stop.place ++ reverse xs) items) refl refl in
     counts_kept t old after h
 
 pub returns-clause-functions : goal.returns-clause-functions
@@ -73,5 +72,5 @@ returns-clause-functions c =
     let items = c.truncate.ensures.items ∙ ap (λ (xs : List Frame). take left xs) c.reserve.ensures.items in
     let same : DiffersInRow old.state state = record { label = refl; done_so_far = refl; forks = refl; faulted = refl; callers = refl; calls = refl } in
     let h : GoesAlong t old after = along t old after l place left kept stop b same (search rules) refl (c.in_ok-stopped.ensures.thread t b.begins)
-    (c.push_mark.ensures ∙ ap (λ (xs : List Frame). frames_at (flat_shown l.places.items) stop.place ++ reverse xs) items) refl refl in
+    (c.push_mark.ensures ∙ ap (λ (xs : List Frame). mark_at l stop.place ++ reverse xs) items) refl refl in
     functions_kept t old after h

@@ -3,8 +3,8 @@ use Rattle.std.specs.Prelude.{slice_get, map, reverse}
 use Rattle.std.specs.Option.{option_map}
 use Rattle.std.proofs.lemmas.Option.{slice_get-map}
 use Rattle.par_tree.specs.Names.{param_names}
-use Rattle.thread_points.specs.Passed.States.{State}
-use Rattle.thread_points.specs.Passed.Calls.{all_passed}
+use Rattle.thread_state.specs.Passed.States.{State}
+use Rattle.thread_state.specs.Passed.DepthFirstRunCalls.{all_passed}
 use Rattle.node_table.specs.Names.{slot_names}
 use Rattle.node_table.specs.Codes.{code_shown, funcs_of}
 use Rattle.node_table.specs.Shown.{node_shown, kind_shown, func_shown, target_shown, args_shown}
@@ -24,7 +24,7 @@ use Rattle.thread_state.specs.declared.state.ThreadState.{ThreadState}
 use Rattle.thread_run.proofs.Arms.{kind_there}
 use Rattle.dag_order.specs.declared.fault.FaultKind.{FaultKind}
 use Rattle.par_ownership.specs.Ownership.{function_of}
-use Rattle.thread_points.specs.Passed.Middle.{step_call}
+use Rattle.thread_state.specs.Passed.Middle.{step_call}
 use Rattle.thread_run.specs.declared.ready.Ready.TheVariants.{Fault}
 use Rattle.thread_run.specs.declared.run.ThreadRun.{ThreadRun}
 use Rattle.thread_run.specs.Calling.{Begins}

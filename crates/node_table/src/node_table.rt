@@ -9,7 +9,7 @@ use crate::node::Node;
 
 /// A program that keeps the rules of ownership as a table of nodes, with its functions in the order of the text.
 #[derive(Drop)]
-pub struct Code {
+pub struct NodeTable {
     pub(crate) nodes: Vec<Node>,
     pub(crate) funcs: Vec<FuncCode>,
     pub(crate) main: u32,

@@ -3,7 +3,7 @@ use Rattle.std.proofs.lemmas.List.{length-map}
 use Rattle.node_table.specs.Table.{Table}
 use Rattle.node_table.specs.Programs.{IsAcceptedTable}
 use Rattle.node_table.specs.Shown.{node_shown, nodes_shown, funcs_shown, table_shown}
-use Rattle.node_table.proofs.code.Code.copy.Goals as goal
+use Rattle.node_table.proofs.node_table.NodeTable.copy.Goals as goal
 
 pub invariant_of-result : goal.invariant_of-result
 invariant_of-result c =

@@ -1,0 +1,6 @@
+-- What callers need of what this crate stands on.
+pub use Rattle.dag_order.specs.declared.fault.FaultKind as FaultKind
+pub use Rattle.dag_order.specs.declared.fault.FaultKind.TheVariants as FaultKindVariants
+pub use Rattle.par_tree.specs.Tree as Tree
+pub use Rattle.slot_store.specs.Agreement as Agreement
+pub use Rattle.slot_store.specs.Rows as Rows

@@ -1,0 +1,3 @@
+-- What callers need of what this crate stands on.
+pub use Rattle.flat_expressions.specs.Acts as Acts
+pub use Rattle.flat_expressions.specs.Meanings as Meanings

@@ -1,0 +1,5 @@
+-- What callers need of what this crate stands on.
+pub use Rattle.depth_first_run.specs.Stores as Stores
+pub use Rattle.depth_first_run.specs.Values as Values
+pub use Rattle.node_table.specs.Reading as Reading
+pub use Rattle.node_table.specs.Table as Table
