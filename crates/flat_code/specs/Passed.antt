@@ -1,4 +1,4 @@
--- What callers need of what this crate stands on.
+-- Definitions of lower crates that callers find here.
 pub use Rattle.flat_statements.specs.Codes as Codes
 pub use Rattle.flat_statements.specs.Flat as Flat
 pub use Rattle.flat_statements.specs.Follows as Follows

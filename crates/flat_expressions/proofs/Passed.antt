@@ -1,3 +1,3 @@
--- What the proofs of callers need of what this crate stands on.
+-- Definitions of lower crates that callers find here.
 pub use Rattle.slot_store.proofs.Agreement as Agreement
 pub use Rattle.slot_store.proofs.Rows as Rows

@@ -1,4 +1,4 @@
--- What callers need of what this crate stands on.
+-- Definitions of lower crates that callers find here.
 pub use Rattle.dag_order.specs.declared.fault.FaultKind as FaultKind
 pub use Rattle.dag_order.specs.declared.fault.FaultKind.TheVariants as FaultKindVariants
 pub use Rattle.par_tree.specs.Tree as Tree

@@ -1,3 +1,3 @@
--- What callers need of what this crate stands on.
+-- Definitions of lower crates that callers find here.
 pub use Rattle.flat_expressions.specs.Acts as Acts
 pub use Rattle.flat_expressions.specs.Meanings as Meanings

@@ -1,3 +1,3 @@
--- What the proofs of callers need of what this crate stands on.
+-- Definitions of lower crates that callers find here.
 pub use Rattle.thread_stack.proofs.Costs as Costs
 pub use Rattle.thread_stack.proofs.Lists as Lists

@@ -1,4 +1,4 @@
--- What callers need of what this crate stands on.
+-- Definitions of lower crates that callers find here.
 pub use Rattle.flat_expressions.specs.Acts as Acts
 pub use Rattle.flat_expressions.specs.Values as Values
 pub use Rattle.thread_stack.specs.Frames as Frames

@@ -1,4 +1,4 @@
--- What callers need of what this crate stands on.
+-- Definitions of lower crates that callers find here.
 pub use Rattle.depth_first_run.specs.Stores as Stores
 pub use Rattle.depth_first_run.specs.Values as Values
 pub use Rattle.node_table.specs.Reading as Reading

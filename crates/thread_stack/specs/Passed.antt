@@ -1,4 +1,4 @@
--- What callers need of what this crate stands on.
+-- Definitions of lower crates that callers find here.
 pub use Rattle.depth_first_run.specs.Middle as Middle
 pub use Rattle.depth_first_run.specs.Run as Run
 pub use Rattle.depth_first_run.specs.States as States
