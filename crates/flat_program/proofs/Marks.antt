@@ -23,6 +23,10 @@ module _ {A : Type 0} where
       ∙ append_assoc (take n stack) others (last ∷ [])
       ∙ ap (λ (xs : List A). take n stack ++ xs) (sym is)
 
+  pub all_dropped : (xs : List A) → drop (length xs) xs ≡ []
+  all_dropped [] = refl
+  all_dropped (x ∷ xs) = all_dropped xs
+
   -- a mark has a frame at least
   pub none_above : (stack mark left : List A) (next : A) → length mark ≡ 0 → length left ≤ length stack → stack ++ next ∷ [] ≡ left ++ mark → ⊥
   none_above stack mark left next none less is =

@@ -67,7 +67,8 @@ pub(crate) fn deepest_of(places: &[Place]) -> usize
     deepest
 }
 
-/// How many frames of a stack, with one more above it, are left below those of a mark.
+/// How many frames of a stack, with one more above it, are left below those of a mark. Most marks have one frame.
+#[inline(always)]
 fn left_of(mark: &[Frame], next: Frame, stack: &[Frame]) -> Option<usize>
     ensures some { IfSome result (λ n. (n ≤ length stack.now) × (stack.now ++ next ∷ [] ≡ take n stack.now ++ mark.now)) }
     ensures none { result ≡ None → (left : List frames.Frame) → length left ≤ length stack.now
@@ -78,6 +79,9 @@ fn left_of(mark: &[Frame], next: Frame, stack: &[Frame]) -> Option<usize>
     };
     if !is_same_frame(next, *last) {
         return None;
+    }
+    if others.is_empty() {
+        return Some(stack.len());
     }
     if others.len() > stack.len() {
         return None;
