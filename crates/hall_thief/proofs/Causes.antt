@@ -14,7 +14,8 @@ use Rattle.deque_list.specs.Deques.{Deque}
 use Rattle.hall_slots.specs.Passed.Moments.{Moment}
 use Rattle.hall_slots.specs.Passed.Play as play
 use Rattle.hall_slots.specs.Passed.Play.{IsFirst}
-use Rattle.hall_slots.specs.Passed.Terms.{Terms, machine_of}
+use Rattle.hall_thief.specs.HallNames.{Terms, machine_of, HasAs, Hall, LaneShown, ListShown, by_rule, deque_of, deques_of, lane_at, HallKey, LaneSlot}
+use Rattle.hall_thief.specs.HallNames.{ListSlot, Slot, table_of, quota_of, terms_of, lane_shown, stop_shown, view_of, HallSeat}
 use Rattle.moment_shown.specs.Parts as parts
 use Rattle.open_periods.proofs.Lists.{set_same}
 use Rattle.play_rules.specs.declared.stop.Stop.{Stop as AnyStop}
@@ -22,25 +23,16 @@ use Rattle.play_rules.specs.declared.stop.Stop.TheVariants.{DequesFull}
 use Rattle.hall_slots.specs.Passed.Shown.{thread_shown}
 use Rattle.thread_state.specs.Settings.{IsSettingOf}
 use Rattle.turn_table.specs.Hands.{Shows}
-use Rattle.turn_table.specs.Notes.{HasAs}
 use Rattle.turn_table.proofs.Standing.{shown_as}
 use Rattle.play_rules.specs.Choices.{IsReadyAt, reach_of}
 use Rattle.hall_slots.specs.Passed.Crew.{HasCauseAmong, SeatStands, Crew}
 use Rattle.hall_slots.specs.Passed.Seats.{finding}
 use Rattle.hall_slots.specs.Passed.State.{RunningState}
 use Rattle.hall_slots.specs.Passed.Steps.{Step, Leads}
-use Rattle.hall_slots.specs.Passed.Values.{Hall, LaneShown, ListShown, by_rule, deque_of, deques_of, lane_at}
 use Rattle.hall_slots.specs.Passed.HallMachineViews.{View}
 use Rattle.hall_slots.proofs.Passed.Stops.{full_lists_go_on}
-use Rattle.hall_slots.specs.declared.key.HallKey.{HallKey}
-use Rattle.hall_slots.specs.declared.lane_slot.LaneSlot.{LaneSlot}
-use Rattle.hall_slots.specs.declared.list_slot.ListSlot.{ListSlot}
-use Rattle.hall_slots.specs.declared.slot.Slot.{Slot}
 use Rattle.hall_slots.specs.declared.slot.Slot.TheVariants as slots
-use Rattle.hall_slots.specs.Keys.{table_of, quota_of, terms_of}
-use Rattle.hall_slots.specs.Shown.{lane_shown, stop_shown, view_of}
 use Rattle.hall_slots.specs.Steps.{hall_shown}
-use Rattle.hall_slots.specs.Takes.{HallSeat}
 use Rattle.hall_slots.proofs.Written.{list_at, lane_shown_at}
 use Rattle.hall_thief.proofs.Slots.{slot_is}
 use Rattle.hall_slots.specs.Stopping.{IsCaused, MayStop}

@@ -12,19 +12,13 @@ use Rattle.turn_table.specs.declared.held.Held.{Held}
 use Rattle.turn_table.specs.declared.look.Look.{Look}
 use Rattle.turn_table.specs.declared.look.Look.TheVariants.{Refused}
 use Rattle.turn_table.specs.Hands.{took}
-use Rattle.turn_table.specs.Seats.{with_hand}
+use Rattle.hall_thief.specs.HallNames.{with_hand, LaneShown, of_lane, LaneSlot, ListSlot, Slot, lane_shown, HallSeat, IsRefused}
 use Rattle.turn_table.specs.Backs.{kept, told_more}
 use Rattle.play_rules.proofs.Turns.{has_turn}
-use Rattle.hall_slots.specs.Passed.Values.{LaneShown, of_lane}
 use Rattle.hall_slots.specs.Passed.Writing.{lane_slot}
 use Rattle.hall_slots.specs.Passed.Receipts as shown
 use Rattle.hall_slots.specs.Passed.Receipts.{SawLane, ShowsUnready, ShowsVictim}
-use Rattle.hall_slots.specs.declared.lane_slot.LaneSlot.{LaneSlot}
-use Rattle.hall_slots.specs.declared.list_slot.ListSlot.{ListSlot}
-use Rattle.hall_slots.specs.declared.slot.Slot.{Slot}
 use Rattle.hall_slots.specs.declared.slot.Slot.TheVariants as slots
-use Rattle.hall_slots.specs.Shown.{lane_shown}
-use Rattle.hall_slots.specs.Takes.{HallSeat, IsRefused}
 use Rattle.hall_thief.specs.Robbing.{ShowsNothing, TriesShowNothing}
 use Rattle.hall_thief.specs.Choosing.{look_shown, IsToldMore, IsReadyBy, took_lane, HasTried, HasTriedAll, HasVictim, IsRefusedALane, PicksNext, Tried, reach_in, refused_look}
 

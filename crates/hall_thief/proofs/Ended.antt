@@ -1,24 +1,16 @@
 -- What a seat is that has put back what it held.
 use Rattle.std.proofs.Common.{◌≡◌, ◌≢◌, ℕ, ◌+◌, ◌<◌, ◌≤◌, List, [], ◌∷◌, ◌++◌, length, inl, inr, refl, sym, ap, ◌∙◌, subst, arith, append-nil}
 use Rattle.std.specs.Prelude.{Result, Ok, Err}
-use Rattle.deque_list.specs.declared.deque_id.DequeId.{DequeId}
+use Rattle.hall_thief.specs.HallNames.{DequeId, HasAs, with_hand, LaneSlot, ListSlot, SeatNote, Slot, Event, HallSeat, IsGiven, IsRefused, IsTaken}
 use Rattle.deque_list.specs.declared.place.Place.{Place}
 use Rattle.deque_list.specs.Ids.{IsSmallestFree, place_ids}
 use Rattle.turn_table.specs.declared.held.Held.{Held}
 use Rattle.turn_table.specs.declared.look.Look.{Look}
 use Rattle.turn_table.specs.declared.look.Look.TheVariants.{Took, Refused}
 use Rattle.turn_table.specs.Hands.{gave, without_slot, renewed}
-use Rattle.turn_table.specs.Notes.{HasAs}
-use Rattle.turn_table.specs.Seats.{with_hand}
 use Rattle.turn_table.proofs.Left.{first_of_two, left_of_one, second_of_two, third_of_three}
 use Rattle.turn_table.specs.Backs.{still, unchanged}
-use Rattle.hall_slots.specs.declared.lane_slot.LaneSlot.{LaneSlot}
-use Rattle.hall_slots.specs.declared.list_slot.ListSlot.{ListSlot}
-use Rattle.hall_slots.specs.declared.seat_note.SeatNote.{SeatNote}
-use Rattle.hall_slots.specs.declared.slot.Slot.{Slot}
 use Rattle.hall_slots.specs.declared.slot.Slot.TheVariants as slots
-use Rattle.hall_slots.specs.declared.event.Event.{Event}
-use Rattle.hall_slots.specs.Takes.{HallSeat, IsGiven, IsRefused, IsTaken}
 use Rattle.hall_thief.specs.Thefts.{stolen_note}
 use Rattle.hall_thief.specs.Stealing.{HasStolenIn}
 use Rattle.hall_slots.specs.Stopping.{found_note, HasStopped}

@@ -6,23 +6,16 @@ use Rattle.std.specs.Prelude.{Some, slice_get}
 use denote.Struct.Props.{props}
 use Rattle.depth_first_run.specs.States.{Setting}
 use Rattle.deque_list.specs.declared.place.Place.{Place}
-use Rattle.hall_slots.specs.Passed.Terms.{Terms, machine_of}
+use Rattle.hall_thief.specs.HallNames.{Terms, machine_of, notes, Hall, ListShown, lane_in, ListSlot, Slot, value_of, view_of, HallKey, terms_of, HallSeat}
+use Rattle.hall_thief.specs.HallNames.{MeetsLaw}
 use Rattle.hall_slots.proofs.Passed.Notes.{each_get}
 use Rattle.turn_table.specs.Hands.{Shows}
 use Rattle.turn_table.specs.Law.{Stands}
-use Rattle.turn_table.specs.Notes.{notes}
-use Rattle.hall_slots.specs.Passed.Values.{Hall, ListShown, lane_in}
 use Rattle.hall_slots.specs.Passed.Standing.{HasLane}
 use Rattle.hall_slots.specs.Passed.State.{HallLaw}
-use Rattle.hall_slots.specs.declared.list_slot.ListSlot.{ListSlot}
-use Rattle.hall_slots.specs.declared.slot.Slot.{Slot}
 use Rattle.hall_slots.specs.declared.slot.Slot.TheVariants as slots
-use Rattle.hall_slots.specs.Shown.{value_of, view_of}
-use Rattle.hall_slots.specs.declared.key.HallKey.{HallKey}
-use Rattle.hall_slots.specs.Keys.{terms_of}
 use Rattle.hall_slots.specs.Law.{joined_note}
 use Rattle.hall_slots.specs.Steps.{hall_shown}
-use Rattle.hall_slots.specs.Takes.{HallSeat, MeetsLaw}
 use Rattle.hall_slots.proofs.Keeping.{Whole}
 use Rattle.hall_slots.proofs.Written.{list_at}
 

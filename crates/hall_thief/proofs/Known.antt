@@ -8,34 +8,24 @@ use mathlib.Core.Option.{some}
 use lib.ListN.{get_elem?}
 use Rattle.depth_first_list.specs.Actions.{record_words}
 use Rattle.depth_first_run.specs.States.{Setting}
-use Rattle.deque_list.specs.declared.deque_id.DequeId.{DequeId}
+use Rattle.hall_thief.specs.HallNames.{DequeId, Terms, machine_of, HasAs, notes, Hall, LaneShown, ListShown, deque_at, HallKey, LaneSlot, ListSlot, Slot}
+use Rattle.hall_thief.specs.HallNames.{quota_of, terms_of, value_of, view_of, ListIsSound, LanesAreInUse, HallSeat, MeetsLaw}
 use Rattle.deque_list.specs.declared.place.Place.{Place}
 use Rattle.deque_list.specs.Ids.{IsSmallestFree, place_ids}
 use Rattle.hall_slots.specs.Passed.Moments.{Moment, Deque}
-use Rattle.hall_slots.specs.Passed.Terms.{Terms, machine_of}
 use Rattle.hall_slots.proofs.Passed.DequeMachineLists.{each_map}
 use Rattle.moment_shown.specs.Parts as parts
 use Rattle.hall_slots.specs.Passed.Thread.{Thread}
 use Rattle.hall_slots.specs.Passed.Shown.{thread_shown}
 use Rattle.turn_table.specs.Hands.{Has, Shows}
 use Rattle.turn_table.specs.Law.{Stands}
-use Rattle.turn_table.specs.Notes.{HasAs, notes}
 use Rattle.turn_table.proofs.Standing.{held_within, shown_as}
-use Rattle.hall_slots.specs.Passed.Values.{Hall, LaneShown, ListShown, deque_at}
 use Rattle.hall_slots.specs.Passed.Writing.{lane_slot}
 use Rattle.hall_slots.specs.Passed.State.{HallLaw}
 use Rattle.hall_slots.proofs.Passed.Notes.{each_get}
-use Rattle.hall_slots.specs.declared.key.HallKey.{HallKey}
-use Rattle.hall_slots.specs.declared.lane_slot.LaneSlot.{LaneSlot}
-use Rattle.hall_slots.specs.declared.list_slot.ListSlot.{ListSlot}
-use Rattle.hall_slots.specs.declared.slot.Slot.{Slot}
 use Rattle.hall_slots.specs.declared.slot.Slot.TheVariants as slots
-use Rattle.hall_slots.specs.Keys.{quota_of, terms_of}
 use Rattle.hall_slots.specs.Law.{HallHolds, joined_note}
-use Rattle.hall_slots.specs.Shown.{value_of, view_of}
-use Rattle.hall_slots.specs.Sound.{ListIsSound, LanesAreInUse}
 use Rattle.hall_slots.specs.Steps.{hall_shown}
-use Rattle.hall_slots.specs.Takes.{HallSeat, MeetsLaw}
 use Rattle.hall_slots.proofs.Keeping.{Whole}
 use Rattle.hall_slots.proofs.Reading.{get_of_at}
 use Rattle.hall_slots.proofs.Written.{list_at, lane_shown_at}

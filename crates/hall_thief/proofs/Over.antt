@@ -10,10 +10,11 @@ use lib.ListN.{get_elem?}
 use lib.Seq.{map-set}
 use Rattle.depth_first_run.specs.States.{Setting}
 use Rattle.depth_first_run.proofs.Built.{whole_is_depth_first}
-use Rattle.deque_list.specs.declared.deque_id.DequeId.{DequeId}
+use Rattle.hall_thief.specs.HallNames.{DequeId, Terms, machine_of, Hall, LaneShown, ListShown, lane_at, LaneSlot, ListSlot, SeatNote, Slot, list_shown}
+use Rattle.hall_thief.specs.HallNames.{end_shown, value_of, view_of, HallKey, table_of, quota_of, terms_of, threads_in, threads_of, IsLaneOf}
+use Rattle.hall_thief.specs.HallNames.{thread_that_waits, ThreadsAreAtPoints, LanesAreInUse, ListIsSound, EndIsSound, PartsAreSound, HallSeat}
 use Rattle.deque_list.specs.declared.place.Place.{Place}
 use Rattle.deque_list.specs.Ids.{deque_id}
-use Rattle.hall_slots.specs.Passed.Terms.{Terms, machine_of}
 use Rattle.hall_slots.specs.Passed.Lists.{Among, Each}
 use Rattle.hall_slots.proofs.Passed.DequeMachineLists.{each_from, each_among, among_middle, among_wider, among_here}
 use Rattle.open_periods.proofs.Lists.{set_same, set_other}
@@ -22,7 +23,6 @@ use Rattle.hall_slots.specs.Passed.Thread.{Thread}
 use Rattle.hall_slots.specs.Passed.ThreadFramesPoints.{IsAtPoint}
 use Rattle.hall_slots.specs.Passed.Shown.{thread_shown}
 use Rattle.thread_state.specs.Settings.{IsSettingOf}
-use Rattle.hall_slots.specs.Passed.Values.{Hall, LaneShown, ListShown, lane_at}
 use Rattle.hall_slots.specs.Passed.Rows.{list_stolen}
 use Rattle.hall_slots.specs.Passed.Machine.{steals}
 use Rattle.hall_slots.specs.Passed.Steps.{Step, stole}
@@ -34,18 +34,9 @@ use Rattle.hall_slots.specs.Passed.State.{HallLaw}
 use Rattle.hall_slots.specs.Passed.HallMachinePoints.{AreAtPoints, LaneAtPoints, IsExcused}
 use Rattle.hall_slots.proofs.Passed.Thieves.{taking_over_goes_on}
 use Rattle.hall_interleavings.proofs.Stealing.{taken_over}
-use Rattle.hall_slots.specs.declared.lane_slot.LaneSlot.{LaneSlot}
-use Rattle.hall_slots.specs.declared.list_slot.ListSlot.{ListSlot}
-use Rattle.hall_slots.specs.declared.seat_note.SeatNote.{SeatNote}
-use Rattle.hall_slots.specs.declared.slot.Slot.{Slot}
 use Rattle.hall_slots.specs.declared.slot.Slot.TheVariants as slots
-use Rattle.hall_slots.specs.Shown.{list_shown, end_shown, value_of, view_of}
-use Rattle.hall_slots.specs.declared.key.HallKey.{HallKey}
-use Rattle.hall_slots.specs.Keys.{table_of, quota_of, terms_of}
 use Rattle.hall_slots.specs.Law.{HallHolds}
-use Rattle.hall_slots.specs.Sound.{threads_in, threads_of, IsLaneOf, thread_that_waits, ThreadsAreAtPoints, LanesAreInUse, ListIsSound, EndIsSound, PartsAreSound}
 use Rattle.hall_slots.specs.Steps.{hall_shown, IsRunning}
-use Rattle.hall_slots.specs.Takes.{HallSeat}
 use Rattle.hall_slots.proofs.Lone.{noted_at}
 use Rattle.hall_slots.proofs.Noting.{answered_set}
 use Rattle.hall_slots.proofs.Putting.{law_of, shaped_set}

@@ -4,7 +4,7 @@ use Rattle.std.specs.Prelude.{Option, None, Some, insert, slice_get, slice_set}
 use Rattle.std.proofs.lemmas.Option.{same_Some}
 use Rattle.hall_slots.proofs.Passed.Putting.{set_middle}
 use Rattle.hall_slots.proofs.Passed.Stealing.{insert_behind, last_place, take_left}
-use Rattle.deque_list.specs.declared.deque_id.DequeId.{DequeId}
+use Rattle.hall_thief.specs.HallNames.{DequeId, ListSlot}
 use Rattle.deque_list.specs.declared.place.Place.{Place}
 use Rattle.deque_list.specs.Ids.{StandsAt}
 use Rattle.hall_slots.specs.Passed.Parts.{Has, place_with}
@@ -13,7 +13,6 @@ use Rattle.deque_list.specs.Ids.{IsLive, place_ids}
 use Rattle.deque_list.specs.Orders.{OrderView}
 use Rattle.open_periods.proofs.Sorting.{get_middle}
 use Rattle.space_ledger.specs.BooksList.{books_list}
-use Rattle.hall_slots.specs.declared.list_slot.ListSlot.{ListSlot}
 use Rattle.hall_thief.specs.Thefts.{IsRobbed}
 
 module _ {places : List Place} {id : DequeId} where

@@ -1,24 +1,16 @@
 -- The put back that decides that a deque is taken over.
 use Rattle.std.proofs.Common.{◌≡◌, ℕ, suc, ◌+◌, ◌<◌, List, [], ◌∷◌, set, if◌then◌else◌, refl, sym, ap, ◌∙◌, subst, arith, eq-eqb}
 use lib.ListN.{get_elem?}
-use Rattle.deque_list.specs.declared.deque_id.DequeId.{DequeId}
+use Rattle.hall_thief.specs.HallNames.{DequeId, PutMay, with_hand, LaneSlot, ListSlot, SeatNote, Slot, HallKey, HallSeat, IsGiven}
 use Rattle.turn_table.specs.declared.hand.Hand.{Hand}
 use Rattle.turn_table.specs.Hands.{Shows, showing, without_slot, renewed, shown_by, gave}
 use Rattle.turn_table.specs.Law.{PutKeeps}
-use Rattle.turn_table.specs.Notes.{PutMay}
-use Rattle.turn_table.specs.Seats.{with_hand}
 use Rattle.turn_table.proofs.Left.{left_of_one, second_of_two}
 use Rattle.turn_table.proofs.NoteLaws.{put_writes}
 use Rattle.turn_table.specs.Backs.{still, unchanged}
 use Rattle.turn_table.proofs.Resting.{put_rests}
-use Rattle.hall_slots.specs.declared.lane_slot.LaneSlot.{LaneSlot}
-use Rattle.hall_slots.specs.declared.list_slot.ListSlot.{ListSlot}
-use Rattle.hall_slots.specs.declared.seat_note.SeatNote.{SeatNote}
-use Rattle.hall_slots.specs.declared.slot.Slot.{Slot}
 use Rattle.hall_slots.specs.declared.slot.Slot.TheVariants as slots
-use Rattle.hall_slots.specs.declared.key.HallKey.{HallKey}
 use Rattle.hall_slots.specs.Law.{HallHolds, places_of, joined_note}
-use Rattle.hall_slots.specs.Takes.{HallSeat, IsGiven}
 use Rattle.hall_slots.proofs.Keeping.{Whole}
 use Rattle.hall_thief.specs.Thefts.{stolen_note, HasTakenOver, StealsInto, HasStolen}
 use Rattle.hall_thief.proofs.Over.{over_holds}

@@ -4,7 +4,8 @@ use Rattle.std.proofs.lemmas.List.{append_assoc, length-map}
 use Rattle.std.proofs.lemmas.Option.{same_Some}
 use Rattle.std.specs.Prelude.{None, Some, Result, Ok, Err, true, nat_lt, slice_get}
 use mathlib.Core.List.{map-append}
-use Rattle.deque_list.specs.declared.deque_id.DequeId.{DequeId}
+use Rattle.hall_thief.specs.HallNames.{DequeId, HasAs, with_hand, LaneShown, of_lane, Event, HallKey, LaneSlot, ListSlot, SeatNote, Slot, lane_shown}
+use Rattle.hall_thief.specs.HallNames.{HallSeat, HasAllPlaces, IsTaken, MeetsLaw}
 use Rattle.deque_list.specs.declared.place.Place.{Place}
 use Rattle.deque_list.specs.Ids.{IsSmallestFree, place_ids}
 use Rattle.hall_slots.specs.Passed.Lists.{Among}
@@ -15,24 +16,13 @@ use Rattle.hall_slots.specs.Passed.Shown.{thread_shown}
 use Rattle.turn_table.specs.declared.look.Look.{Look}
 use Rattle.turn_table.specs.declared.look.Look.TheVariants.{Took}
 use Rattle.turn_table.specs.Hands.{Has}
-use Rattle.turn_table.specs.Notes.{HasAs}
-use Rattle.turn_table.specs.Seats.{with_hand}
 use Rattle.turn_table.proofs.Standing.{has_as}
 use Rattle.hall_slots.specs.Passed.Receipts as shown
 use Rattle.hall_slots.specs.Passed.Receipts.{SawLane, ShowsVictim}
-use Rattle.hall_slots.specs.Passed.Values.{LaneShown, of_lane}
 use Rattle.hall_slots.specs.Passed.Writing.{lane_slot}
 use Rattle.hall_slots.proofs.Passed.Notes.{each_get}
 use Rattle.hall_interleavings.specs.Thefts.{ShowsId, keeps_its_id, has_free_id}
-use Rattle.hall_slots.specs.declared.event.Event.{Event}
-use Rattle.hall_slots.specs.declared.key.HallKey.{HallKey}
-use Rattle.hall_slots.specs.declared.lane_slot.LaneSlot.{LaneSlot}
-use Rattle.hall_slots.specs.declared.list_slot.ListSlot.{ListSlot}
-use Rattle.hall_slots.specs.declared.seat_note.SeatNote.{SeatNote}
-use Rattle.hall_slots.specs.declared.slot.Slot.{Slot}
 use Rattle.hall_slots.specs.declared.slot.Slot.TheVariants as slots
-use Rattle.hall_slots.specs.Shown.{lane_shown}
-use Rattle.hall_slots.specs.Takes.{HallSeat, HasAllPlaces, IsTaken, MeetsLaw}
 use Rattle.hall_thief.specs.Choosing.{look_shown, took_lane, refused_look, HasVictim, PicksNext}
 use Rattle.hall_slots.specs.Lists.{with_list}
 use Rattle.hall_thief.specs.declared.prey.Prey.{Prey}

@@ -7,9 +7,9 @@ use mathlib.Core.Option.{some}
 use mathlib.Core.List.{map-append}
 use lib.ListN.{get_elem?}
 use Rattle.depth_first_run.specs.States.{Setting}
-use Rattle.deque_list.specs.declared.deque_id.DequeId.{DequeId}
+use Rattle.hall_thief.specs.HallNames.{DequeId, Terms, machine_of, ListShown, LaneSlot, ListSlot, SeatNote, Slot, list_shown, lane_shown, running_shown}
+use Rattle.hall_thief.specs.HallNames.{end_shown, told_shown, value_of, view_of, HallKey, table_of, quota_of, terms_of, ListIsSound}
 use Rattle.deque_list.specs.declared.place.Place.{Place}
-use Rattle.hall_slots.specs.Passed.Terms.{Terms, machine_of}
 use Rattle.hall_slots.specs.Passed.Lists.{Among, Each}
 use Rattle.hall_slots.proofs.Passed.DequeMachineLists.{each_from, each_among}
 use Rattle.open_periods.specs.Periods.{Period, closed_shown}
@@ -17,7 +17,6 @@ use Rattle.hall_slots.specs.Passed.Thread.{Thread}
 use Rattle.hall_slots.specs.Passed.ThreadFramesPoints.{IsResult}
 use Rattle.hall_slots.specs.Passed.ThreadFramesKept.{WaitsUnder, IsUnderItsId, waiting_shown, result_kept}
 use Rattle.hall_slots.specs.Passed.Shown.{thread_shown}
-use Rattle.hall_slots.specs.Passed.Values.{ListShown}
 use Rattle.hall_slots.specs.Passed.Rows.{list_stolen}
 use Rattle.hall_slots.specs.Passed.Steps.{stole}
 use Rattle.hall_slots.specs.Passed.Writing.{lane_with, new_period}
@@ -25,16 +24,8 @@ use Rattle.hall_slots.proofs.Passed.Lanes.{IsElsewhere, apart}
 use Rattle.hall_slots.specs.Passed.Changes.{after_event}
 use Rattle.hall_slots.specs.Passed.State.{HallLaw}
 use Rattle.hall_slots.specs.declared.event.Event.TheVariants.{Stole}
-use Rattle.hall_slots.specs.declared.lane_slot.LaneSlot.{LaneSlot}
-use Rattle.hall_slots.specs.declared.list_slot.ListSlot.{ListSlot}
-use Rattle.hall_slots.specs.declared.seat_note.SeatNote.{SeatNote}
-use Rattle.hall_slots.specs.declared.slot.Slot.{Slot}
 use Rattle.hall_slots.specs.declared.slot.Slot.TheVariants as slots
-use Rattle.hall_slots.specs.Shown.{list_shown, lane_shown, running_shown, end_shown, told_shown, value_of, view_of}
-use Rattle.hall_slots.specs.declared.key.HallKey.{HallKey}
-use Rattle.hall_slots.specs.Keys.{table_of, quota_of, terms_of}
 use Rattle.hall_slots.specs.Law.{HallHolds}
-use Rattle.hall_slots.specs.Sound.{ListIsSound}
 use Rattle.hall_slots.specs.Steps.{hall_shown}
 use Rattle.hall_slots.proofs.Written.{list_at}
 use Rattle.hall_thief.specs.Thefts.{stolen_note, IsRobbed, Begins}

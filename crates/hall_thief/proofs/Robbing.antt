@@ -6,12 +6,8 @@ use Rattle.hall_slots.specs.Passed.Parts.{Has, place_with}
 use Rattle.open_periods.proofs.Sorting.{cut_at}
 use Rattle.hall_slots.specs.Passed.Thread.{Thread}
 use Rattle.hall_slots.specs.Passed.Receipts.{ShowsVictim}
-use Rattle.hall_slots.specs.declared.lane_slot.LaneSlot.{LaneSlot}
-use Rattle.hall_slots.specs.declared.list_slot.ListSlot.{ListSlot}
-use Rattle.hall_slots.specs.declared.slot.Slot.{Slot}
+use Rattle.hall_thief.specs.HallNames.{LaneSlot, ListSlot, Slot, HallKey, HallSeat}
 use Rattle.hall_slots.specs.declared.slot.Slot.TheVariants as slots
-use Rattle.hall_slots.specs.declared.key.HallKey.{HallKey}
-use Rattle.hall_slots.specs.Takes.{HallSeat}
 use Rattle.hall_thief.specs.Choosing.{HasVictim, PicksNext}
 use Rattle.hall_thief.specs.Stealing.{IsNew}
 use Rattle.hall_thief.specs.Robbing.{FoundMayBeTakenOver, FoundBottomsMayBeTaken}

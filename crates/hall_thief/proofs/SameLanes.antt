@@ -8,12 +8,12 @@ use mathlib.Core.Option.{some}
 use lib.ListN.{get_elem?}
 use lib.Seq.{map-set}
 use Rattle.atomic_table.proofs.Lists.{at_map, set_again}
-use Rattle.deque_list.specs.declared.deque_id.DequeId.{DequeId}
+use Rattle.hall_thief.specs.HallNames.{DequeId, Terms, machine_of, Value, of_lane, PutMay, HallKey, LaneSlot, ListSlot, SeatNote, Slot, table_of, quota_of}
+use Rattle.hall_thief.specs.HallNames.{terms_of, running_shown, value_of, view_of, end_shown, threads_in, threads_of, IsLaneOf, thread_that_waits}
+use Rattle.hall_thief.specs.HallNames.{ThreadsAreAtPoints, LanesAreInUse, HallSeat, IsPlaced}
 use Rattle.deque_list.specs.declared.place.Place.{Place}
-use Rattle.hall_slots.specs.Passed.Terms.{Terms, machine_of}
 use Rattle.hall_slots.specs.Passed.State.{HallLaw}
 use Rattle.hall_slots.specs.Passed.HallMachinePoints.{AreAtPoints}
-use Rattle.hall_slots.specs.Passed.Values.{Value, of_lane}
 use Rattle.hall_slots.specs.Passed.Writing.{lane_slot}
 use Rattle.hall_slots.proofs.Passed.DequeMachineLists.{each_map}
 use Rattle.open_periods.proofs.Lists.{set_same, set_other}
@@ -21,22 +21,12 @@ use Rattle.hall_slots.specs.Passed.Thread.{Thread}
 use Rattle.hall_slots.specs.Passed.ThreadFramesPoints.{IsAtPoint}
 use Rattle.hall_slots.specs.Passed.Shown.{thread_shown}
 use Rattle.turn_table.specs.Law.{PutKeeps}
-use Rattle.turn_table.specs.Notes.{PutMay}
 use Rattle.turn_table.proofs.NoteLaws.{put_writes}
 use Rattle.turn_table.proofs.Standing.{shown_as}
 use Rattle.turn_table.specs.Backs.{still, unchanged}
 use Rattle.turn_table.proofs.Resting.{put_rests}
-use Rattle.hall_slots.specs.declared.key.HallKey.{HallKey}
-use Rattle.hall_slots.specs.declared.lane_slot.LaneSlot.{LaneSlot}
-use Rattle.hall_slots.specs.declared.list_slot.ListSlot.{ListSlot}
-use Rattle.hall_slots.specs.declared.seat_note.SeatNote.{SeatNote}
-use Rattle.hall_slots.specs.declared.slot.Slot.{Slot}
 use Rattle.hall_slots.specs.declared.slot.Slot.TheVariants as slots
-use Rattle.hall_slots.specs.Keys.{table_of, quota_of, terms_of}
 use Rattle.hall_slots.specs.Law.{HallHolds, places_of, joined_note}
-use Rattle.hall_slots.specs.Shown.{running_shown, value_of, view_of, end_shown}
-use Rattle.hall_slots.specs.Sound.{threads_in, threads_of, IsLaneOf, thread_that_waits, ThreadsAreAtPoints, LanesAreInUse}
-use Rattle.hall_slots.specs.Takes.{HallSeat, IsPlaced}
 use Rattle.hall_slots.proofs.Keeping.{Whole}
 use Rattle.hall_slots.proofs.Putting.{shaped_set}
 use Rattle.hall_slots.proofs.Reading.{IfLane, get_of_at}

@@ -4,11 +4,8 @@ use Rattle.std.proofs.lemmas.List.{append_assoc}
 use Rattle.std.specs.Prelude.{Result, Ok, Err}
 use Rattle.turn_table.specs.declared.look.Look.{Look}
 use Rattle.turn_table.specs.declared.look.Look.TheVariants.{Took}
-use Rattle.turn_table.specs.Seats.{with_hand}
-use Rattle.hall_slots.specs.declared.list_slot.ListSlot.{ListSlot}
-use Rattle.hall_slots.specs.declared.slot.Slot.{Slot}
+use Rattle.hall_thief.specs.HallNames.{with_hand, ListSlot, Slot, HallSeat, IsTaken}
 use Rattle.hall_slots.specs.declared.slot.Slot.TheVariants as slots
-use Rattle.hall_slots.specs.Takes.{HallSeat, IsTaken}
 use Rattle.hall_thief.specs.Choosing.{IsToldMore, HasVictim, refused_look}
 use Rattle.hall_slots.specs.Lists.{with_list}
 use Rattle.hall_thief.specs.declared.prey.Prey.{Prey}

@@ -1,7 +1,7 @@
 -- What a thief has written is a theft.
 use Rattle.std.proofs.Common.{◌≡◌, ◌≢◌, ℕ, suc, ◌+◌, Bool, true, List, [], ◌∷◌, ◌++◌, length, inl, inr, sym, ap, ◌∙◌, subst, arith}
 use Rattle.std.specs.Prelude.{Some, nat_lt}
-use Rattle.deque_list.specs.declared.deque_id.DequeId.{DequeId}
+use Rattle.hall_thief.specs.HallNames.{DequeId, with_hand, LaneSlot, ListSlot, HallKey, HallSeat}
 use Rattle.deque_list.specs.declared.place.Place.{Place}
 use Rattle.deque_list.specs.Ids.{IsSmallestFree, IsLive, place_ids, deque_id}
 use Rattle.hall_slots.specs.Passed.Lists.{Among, Each}
@@ -10,12 +10,7 @@ use Rattle.hall_slots.specs.Passed.Parts.{Has, place_with}
 use Rattle.open_periods.specs.Periods.{open_shown}
 use Rattle.open_periods.specs.declared.period.Period.{Period}
 use Rattle.hall_slots.specs.Passed.Thread.{Thread}
-use Rattle.turn_table.specs.Seats.{with_hand}
 use Rattle.hall_slots.specs.Passed.Writing.{new_period}
-use Rattle.hall_slots.specs.declared.lane_slot.LaneSlot.{LaneSlot}
-use Rattle.hall_slots.specs.declared.list_slot.ListSlot.{ListSlot}
-use Rattle.hall_slots.specs.declared.key.HallKey.{HallKey}
-use Rattle.hall_slots.specs.Takes.{HallSeat}
 use Rattle.hall_thief.specs.Thefts.{stolen_note, IsRobbed, Begins, HasTakenOver, HasTakenBottom, HasStolen}
 use Rattle.hall_thief.specs.Stealing.{IsNew, MayTakeOver, MayTakeBottom, HasStolenIn}
 

@@ -1,10 +1,8 @@
 -- A seat that took a lane, and put it back.
 use Rattle.std.proofs.Common.{◌+◌, inl, refl, sym, ap, subst}
 use Rattle.deque_list.specs.declared.place.Place.{Place}
-use Rattle.turn_table.specs.Notes.{HasAs}
-use Rattle.hall_slots.specs.declared.lane_slot.LaneSlot.{LaneSlot}
+use Rattle.hall_thief.specs.HallNames.{HasAs, LaneSlot, HallSeat, IsTaken}
 use Rattle.hall_slots.specs.declared.slot.Slot.TheVariants as slots
-use Rattle.hall_slots.specs.Takes.{HallSeat, IsTaken}
 use Rattle.hall_thief.specs.Choosing.{HoldsTheList}
 
 module _ (before middle after : HallSeat) (place : Place) (lane : LaneSlot) (list : HoldsTheList before) (taken : IsTaken before (place.id.0 + 2) (slots.Lane lane) middle) where

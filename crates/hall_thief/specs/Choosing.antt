@@ -5,16 +5,11 @@ use Rattle.turn_table.specs.declared.held.Held.{Held}
 use Rattle.turn_table.specs.declared.look.Look.{Look}
 use Rattle.turn_table.specs.declared.look.Look.TheVariants.{Took, Refused, Counted}
 use Rattle.turn_table.specs.Hands.{took}
-use Rattle.turn_table.specs.Seats.{with_hand}
+use Rattle.hall_thief.specs.HallNames.{with_hand, LaneSlot, ListSlot, Slot, value_of, HallSeat, IsTaken}
 use Rattle.turn_table.specs.Backs.{kept, told_more}
 use Rattle.hall_slots.specs.Passed.Receipts as shown
 use Rattle.hall_slots.specs.Passed.Receipts.{ShowsVictim}
-use Rattle.hall_slots.specs.declared.lane_slot.LaneSlot.{LaneSlot}
-use Rattle.hall_slots.specs.declared.list_slot.ListSlot.{ListSlot}
-use Rattle.hall_slots.specs.declared.slot.Slot.{Slot}
 use Rattle.hall_slots.specs.declared.slot.Slot.TheVariants as slots
-use Rattle.hall_slots.specs.Shown.{value_of}
-use Rattle.hall_slots.specs.Takes.{HallSeat, IsTaken}
 
 -- what an answer shows
 abbrev pub look_shown : Look Slot → shown.Look

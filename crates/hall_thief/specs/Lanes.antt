@@ -1,10 +1,7 @@
 -- A lane that shows what it showed.
 use Rattle.std.specs.Prelude.{◌≡◌, ◌+◌}
-use Rattle.deque_list.specs.declared.deque_id.DequeId.{DequeId}
-use Rattle.turn_table.specs.Notes.{HasAs}
-use Rattle.hall_slots.specs.declared.lane_slot.LaneSlot.{LaneSlot}
+use Rattle.hall_thief.specs.HallNames.{DequeId, HasAs, LaneSlot, HallSeat}
 use Rattle.hall_slots.specs.declared.slot.Slot.TheVariants as slots
-use Rattle.hall_slots.specs.Takes.{HallSeat}
 
 -- The seat holds the lane of a deque, and this lane shows the same, perhaps with other room.
 pub record HoldsTheSameLane (seat : HallSeat) (deque : DequeId) (lane : LaneSlot) : Type 0 where

@@ -7,3 +7,4 @@ pub mod Lanes
 pub mod Prey
 pub mod Refusals
 pub mod Steals
+pub mod HallNames

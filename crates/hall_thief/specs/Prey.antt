@@ -1,6 +1,6 @@
 -- What a thief has in its hands that has found its victim, and what it does then.
-use Rattle.std.specs.Prelude.{◌≡◌, ◌≢◌, ◌⊎◌, ℕ, ◌+◌, ◌<◌, ◌≤◌, false, None, List, [], ◌∷◌, ◌++◌, Result, Ok, Err, length}
-use Rattle.deque_list.specs.declared.deque_id.DequeId.{DequeId}
+use Rattle.std.specs.Prelude.{◌≡◌, ◌≢◌, ◌⊎◌, ℕ, ◌+◌, ◌<◌, ◌≤◌, false, None, List, [], ◌∷◌, ◌++◌, Result, Ok, Err, Some, length, slice_get}
+use Rattle.hall_thief.specs.HallNames.{DequeId, with_hand, Event, HallKey, LaneSlot, ListSlot, SeatNote, Slot, HallSeat, IsTaken, MeetsLaw}
 use Rattle.deque_list.specs.declared.place.Place.{Place}
 use Rattle.deque_list.specs.Ids.{IsSmallestFree, place_ids}
 use Rattle.play_rules.specs.declared.stop.Stop.{Stop}
@@ -8,19 +8,12 @@ use Rattle.play_rules.specs.declared.stop.Stop.TheVariants.{ArenaFull, DequesFul
 use Rattle.turn_table.specs.declared.look.Look.{Look}
 use Rattle.turn_table.specs.declared.look.Look.TheVariants.{Took}
 use Rattle.turn_table.specs.declared.held.Held.{Held}
-use Rattle.turn_table.specs.Seats.{with_hand}
-use Rattle.hall_slots.specs.declared.event.Event.{Event}
 use Rattle.hall_slots.specs.declared.event.Event.TheVariants.{Stole}
-use Rattle.hall_slots.specs.declared.key.HallKey.{HallKey}
-use Rattle.hall_slots.specs.declared.lane_slot.LaneSlot.{LaneSlot}
-use Rattle.hall_slots.specs.declared.list_slot.ListSlot.{ListSlot}
-use Rattle.hall_slots.specs.declared.seat_note.SeatNote.{SeatNote}
-use Rattle.hall_slots.specs.declared.slot.Slot.{Slot}
 use Rattle.hall_slots.specs.declared.slot.Slot.TheVariants as slots
-use Rattle.hall_slots.specs.Takes.{HallSeat, IsTaken}
 use Rattle.hall_thief.specs.Choosing.{HasVictim, refused_look}
 use Rattle.hall_thief.specs.Thefts.{stolen_note, IsThief}
 use Rattle.hall_slots.specs.Stopping.{found_note}
+use Rattle.hall_thief.specs.declared.prey.Prey.{Prey}
 use Rattle.hall_thief.specs.declared.refused.StealRefused.{StealRefused}
 use Rattle.hall_thief.specs.declared.refused.StealRefused.TheVariants.{Busy, Nothing, Over, Stopped}
 
@@ -38,6 +31,13 @@ pub record HasPrey (key : HallKey) (list : ListSlot) (place : ℕ) (lane : LaneS
   pub no_end : list.end ≡ None
   pub word : ℕ
   pub victim : HasVictim key.workers word list start place lane seat
+
+-- The thief may steal from this deque, whose list and lane it holds.
+pub record IsStealing (key : HallKey) (seat : HallSeat) (worker : ℕ) (prey : Prey) (victim : Place) : Type 0 where
+  pub may : MaySteal seat worker
+  pub has : HasPrey key prey.list prey.place prey.lane seat
+  pub meets : MeetsLaw key seat
+  pub there : slice_get prey.list.part.order.places prey.place ≡ Some victim
 
 -- besides, it took the lane of a free deque
 pub record HasBoth (key : HallKey) (list : ListSlot) (place : ℕ) (lane : LaneSlot) (id : DequeId) (new : LaneSlot) (seat : HallSeat)

@@ -1,6 +1,6 @@
 -- What a thief may steal that has chosen its victim.
 use Rattle.std.specs.Prelude.{◌≡◌, ◌≢◌, ℕ, ◌+◌, ◌<◌, ◌≤◌, true, min, nat_lt, Some, List, [], ◌∷◌, ◌++◌, map, length, slice_get}
-use Rattle.deque_list.specs.declared.deque_id.DequeId.{DequeId}
+use Rattle.hall_thief.specs.HallNames.{DequeId, LaneSlot, ListSlot, Slot, HallKey, HallSeat, IsTaken}
 use Rattle.deque_list.specs.declared.place.Place.{Place}
 use Rattle.deque_list.specs.Ids.{IsSmallestFree, place_ids}
 use Rattle.open_periods.specs.declared.period.Period.{Period}
@@ -8,12 +8,7 @@ use Rattle.hall_slots.specs.Passed.Receipts as shown
 use Rattle.hall_slots.specs.Passed.Receipts.{ShowsUnready}
 use Rattle.hall_slots.specs.Passed.Thread.{Thread}
 use Rattle.turn_table.specs.declared.look.Look.{Look}
-use Rattle.hall_slots.specs.declared.lane_slot.LaneSlot.{LaneSlot}
-use Rattle.hall_slots.specs.declared.list_slot.ListSlot.{ListSlot}
-use Rattle.hall_slots.specs.declared.slot.Slot.{Slot}
 use Rattle.hall_slots.specs.declared.slot.Slot.TheVariants as slots
-use Rattle.hall_slots.specs.declared.key.HallKey.{HallKey}
-use Rattle.hall_slots.specs.Takes.{HallSeat, IsTaken}
 use Rattle.hall_thief.specs.Choosing.{HasTriedAll, HasVictim, look_shown}
 use Rattle.hall_thief.specs.Stealing.{IsNew, IsOpenTo, MayTakeOver, MayTakeBottom}
 

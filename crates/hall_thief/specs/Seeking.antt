@@ -3,11 +3,8 @@ use Rattle.std.specs.Prelude.{◌≡◌, ℕ, None, Some, List, [], ◌∷◌, �
 use Rattle.turn_table.specs.declared.look.Look.{Look}
 use Rattle.turn_table.specs.declared.look.Look.TheVariants.{Took}
 use Rattle.turn_table.specs.declared.held.Held.{Held}
-use Rattle.turn_table.specs.Seats.{with_hand}
-use Rattle.hall_slots.specs.declared.list_slot.ListSlot.{ListSlot}
-use Rattle.hall_slots.specs.declared.slot.Slot.{Slot}
+use Rattle.hall_thief.specs.HallNames.{with_hand, ListSlot, Slot, HallSeat}
 use Rattle.hall_slots.specs.declared.slot.Slot.TheVariants as slots
-use Rattle.hall_slots.specs.Takes.{HallSeat}
 use Rattle.hall_slots.specs.Lists.{answered_note, Leaves, with_list}
 use Rattle.hall_thief.specs.Choosing.{HasTriedAll, HasVictim, IsNextHeld, IsToldMore, refused_look}
 use Rattle.hall_thief.specs.declared.prey.Prey.{Prey}

@@ -1,17 +1,12 @@
 -- When a thief may steal, and what its seat is then.
 use Rattle.std.specs.Prelude.{◌≡◌, ◌≢◌, ℕ, ◌+◌, ◌<◌, ◌≤◌, Bool, true, nat_lt, Option, None, List, [], ◌∷◌, ◌++◌, length}
 use Rattle.containers.specs.BoundedList.{entries}
-use Rattle.deque_list.specs.declared.deque_id.DequeId.{DequeId}
+use Rattle.hall_thief.specs.HallNames.{DequeId, with_hand, LaneSlot, ListSlot, HallKey, HallSeat}
 use Rattle.deque_list.specs.Ids.{IsSmallestFree, place_ids}
 use Rattle.hall_slots.specs.Passed.Parts.{Has}
 use Rattle.open_periods.specs.declared.period.Period.{Period}
 use Rattle.hall_slots.specs.Passed.Thread.{Thread}
-use Rattle.turn_table.specs.Seats.{with_hand}
-use Rattle.hall_slots.specs.declared.lane_slot.LaneSlot.{LaneSlot}
-use Rattle.hall_slots.specs.declared.list_slot.ListSlot.{ListSlot}
 use Rattle.hall_slots.specs.declared.slot.Slot.TheVariants as slots
-use Rattle.hall_slots.specs.declared.key.HallKey.{HallKey}
-use Rattle.hall_slots.specs.Takes.{HallSeat}
 use Rattle.hall_thief.specs.Thefts.{stolen_note, IsThief}
 
 -- a period in which nothing is done yet, with this mark and this number

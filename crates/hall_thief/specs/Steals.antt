@@ -1,6 +1,6 @@
 -- What a thief is answered that takes the list and steals, and what its seat is then.
 use Rattle.std.specs.Prelude.{◌≡◌, ◌⊎◌, ℕ, None, List, [], ◌∷◌, ◌++◌, map, Result, Ok, Err}
-use Rattle.deque_list.specs.declared.deque_id.DequeId.{DequeId}
+use Rattle.hall_thief.specs.HallNames.{DequeId, Event, LaneSlot, ListSlot, Slot, HallSeat}
 use Rattle.deque_list.specs.declared.place.Place.{Place}
 use Rattle.play_rules.specs.declared.stop.Stop.{Stop}
 use Rattle.turn_table.specs.declared.look.Look.{Look}
@@ -8,12 +8,7 @@ use Rattle.turn_table.specs.declared.look.Look.TheVariants.{Took}
 use Rattle.turn_table.specs.declared.held.Held.{Held}
 use Rattle.hall_slots.specs.Passed.Receipts.{ShowsVictim}
 use Rattle.hall_interleavings.specs.Thefts.{ShowsTheft}
-use Rattle.hall_slots.specs.declared.event.Event.{Event}
-use Rattle.hall_slots.specs.declared.lane_slot.LaneSlot.{LaneSlot}
-use Rattle.hall_slots.specs.declared.list_slot.ListSlot.{ListSlot}
-use Rattle.hall_slots.specs.declared.slot.Slot.{Slot}
 use Rattle.hall_slots.specs.declared.slot.Slot.TheVariants as slots
-use Rattle.hall_slots.specs.Takes.{HallSeat}
 use Rattle.hall_thief.specs.Choosing.{look_shown, took_lane, refused_look, IsToldMore, PicksNext}
 use Rattle.hall_thief.specs.Seeking.{HasSought, IsHeldOff}
 use Rattle.hall_thief.specs.declared.prey.SeekRefused.TheVariants as sought

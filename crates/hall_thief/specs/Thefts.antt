@@ -1,22 +1,14 @@
 -- What a theft writes into a hall, and what a seat is after it.
 use Rattle.std.specs.Prelude.{◌≡◌, ◌≢◌, ℕ, suc, ◌+◌, ◌<◌, Bool, true, false, nat_lt, Option, None, Some, List, [], ◌∷◌, ◌++◌, length}
-use Rattle.deque_list.specs.declared.deque_id.DequeId.{DequeId}
+use Rattle.hall_thief.specs.HallNames.{DequeId, Each, with_hand, LaneSlot, ListSlot, SeatNote, Slot, HallKey, HallSeat}
 use Rattle.deque_list.specs.declared.place.Place.{Place}
-use Rattle.hall_slots.specs.Passed.Lists.{Each}
 use Rattle.open_periods.specs.Periods.{open_shown}
 use Rattle.open_periods.specs.declared.period.Period.{Period}
 use Rattle.space_ledger.specs.BooksList.{books_list}
 use Rattle.hall_slots.specs.Passed.Thread.{Thread}
-use Rattle.turn_table.specs.Seats.{with_hand}
 use Rattle.hall_slots.specs.Passed.Writing.{place_of, new_period}
 use Rattle.hall_slots.specs.declared.event.Event.TheVariants.{Stole}
-use Rattle.hall_slots.specs.declared.lane_slot.LaneSlot.{LaneSlot}
-use Rattle.hall_slots.specs.declared.list_slot.ListSlot.{ListSlot}
-use Rattle.hall_slots.specs.declared.seat_note.SeatNote.{SeatNote}
-use Rattle.hall_slots.specs.declared.slot.Slot.{Slot}
 use Rattle.hall_slots.specs.declared.slot.Slot.TheVariants as slots
-use Rattle.hall_slots.specs.declared.key.HallKey.{HallKey}
-use Rattle.hall_slots.specs.Takes.{HallSeat}
 
 -- the note of a seat that stole: it owns this deque, in the period of this number
 abbrev pub stolen_note : SeatNote → DequeId → (period : ℕ) → SeatNote

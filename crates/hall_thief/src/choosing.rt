@@ -1,14 +1,18 @@
-//! Whom a thief robs.
+//! Whom a thief robs, with the list that it holds.
 
 ghost use Rattle.std.specs.Prelude.{◌≡◌, ◌+◌, ◌<◌, ◌↔◌, ◌∷◌, [], None, IsTrue, IfOk, IsOk, MatchResult};
-ghost use Rattle.turn_table.specs.Tables.{key_of, slot_count, IsSeatOf};
+ghost use Rattle.hall_thief.specs.HallNames.{key_of, slot_count, IsSeatOf, HasAllPlaces, IsPlaced, IsRefused, MeetsLaw};
 ghost use Rattle.hall_slots.specs.declared.slot.Slot.TheVariants as slots;
-ghost use Rattle.hall_slots.specs.Takes.{HasAllPlaces, IsPlaced, IsRefused, MeetsLaw};
 ghost use Rattle.hall_thief.specs.Choosing.{HasChosen, HasTried, HoldsTheList, IsReadyBy, IsRefusedALane};
+ghost use Rattle.hall_thief.specs.Seeking.{IsNotBusy, SeeksWith};
 
+use crate::prey::{Prey, SeekRefused};
 use containers::Boxed;
 use deque_list::Place;
-use hall_slots::{HallPlace, HallRow, LaneSlot, ListSlot, give_lane_back, take_lane};
+use hall_slots::{
+    HallPlace, HallRow, LaneSlot, ListSlot, end_of, give_lane_back, give_list_back, put_answered,
+    take_lane,
+};
 use play_rules::picked;
 use turn_table::Held;
 
@@ -19,11 +23,7 @@ fn is_ready(place: Place, lane: &LaneSlot) -> bool
     place.owner.is_none() || 2 <= lane.lane.len()
 }
 
-/// Takes the lane of the deque at a place, and keeps it if there is a thread to steal.
-///
-/// # Errors
-///
-/// Another seat holds the lane.
+/// Takes the lane of the deque at a place, and keeps it if there is a thread to steal. Fails if another seat holds the lane.
 fn try_place(row: &HallRow, seat: &mut HallPlace, place: Place) -> Result<Option<LaneSlot>, Held>
     requires here { IsSeatOf row.now seat.old }
     requires placed { IsPlaced seat.old }
@@ -75,4 +75,43 @@ pub fn choose(
         }
     }
     Ok(None)
+}
+
+/// Finds a deque in reach that has a thread to steal, the first in the order that a word picks, with the list that the seat holds alone. The seat
+/// holds the list and the lane of this deque then.
+///
+/// # Errors
+///
+/// Another seat holds the lane of a deque that was to be tried, an end is kept, or no deque in reach has a thread to steal. The seat holds
+/// nothing then.
+pub fn seek(
+    row: &HallRow,
+    seat: &mut HallPlace,
+    list: Boxed<ListSlot>,
+    workers: u32,
+    word: u64,
+) -> Result<Prey, SeekRefused>
+    requires here { IsSeatOf row.now seat.old }
+    requires placed { IsPlaced seat.old }
+    requires holds { seat.old.hand.holds ≡ (0, slots.List list) ∷ [] }
+    requires meets { MeetsLaw (key_of row.now) seat.old }
+    ensures seat { SeeksWith workers word list seat.old seat.new result }
+    ensures meets { IfOk result (λ _. MeetsLaw (key_of row.now) seat.new) }
+    ensures lone { HasAllPlaces (key_of row.now) seat.old → IsNotBusy result }
+{
+    if let Some(end) = end_of(&list) {
+        put_answered(row, seat, list);
+        return Err(SeekRefused::Over(end));
+    }
+    match choose(row, seat, &list, workers, word) {
+        Ok(Some((place, lane))) => Ok(Prey { list, place, lane }),
+        Ok(None) => {
+            give_list_back(row, seat, list);
+            Err(SeekRefused::Nothing)
+        }
+        Err(held) => {
+            give_list_back(row, seat, list);
+            Err(SeekRefused::Busy(held))
+        }
+    }
 }

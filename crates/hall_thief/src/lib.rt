@@ -6,8 +6,8 @@
 //!
 //! - `choosing`: the thief tries the deques in reach, once round, in the order that the word picks. It takes the lane of each, and puts back
 //!   the lanes of those that have no thread to steal.
-//! - `seeking`: if an end is kept, the thief is answered this end. Otherwise it chooses, and holds the list and the lane of its victim.
-//! - `thefts`, with `writes`: the thief made room before, so nothing is refused here.
+//!   If an end is kept, the thief is answered this end. Otherwise it chooses, and holds the list and the lane of its victim.
+//! - `thefts`: the thief made room before, so nothing is refused here.
 //! - `puts`: the list goes back first, and from this step on the lanes show what they are to be, though the seat still holds them. So one put
 //!   back decides the steal.
 //!
@@ -16,19 +16,16 @@
 //! the hall holds between any two atomic steps. The victim of the choice is in reach, and is what the steals ask for ([`robbing_laws`]).
 #![tactic(auto)]
 
-mod backs;
 mod choosing;
 mod parts;
 mod prey;
 mod puts;
 mod refused;
 pub mod robbing_laws;
-mod seeking;
 mod stealing;
 mod thefts;
-mod writes;
 
-pub use backs::give_same_lane_back;
 pub use prey::{Prey, SeekRefused};
+pub use puts::give_same_lane_back;
 pub use refused::StealRefused;
 pub use stealing::steal;

@@ -33,11 +33,8 @@ pub(crate) fn most_deques(list: &Boxed<ListSlot>) -> u32
     list.get().part.order.most()
 }
 
-/// The next period, in which nothing is done yet.
-///
-/// # Errors
-///
-/// There is not enough memory, or each number of a period is taken: a run would have to begin 4,294,967,295 periods.
+/// The next period, in which nothing is done yet. Fails if there is not enough memory, or each number of a period is taken: a run would have to
+/// begin 4,294,967,295 periods.
 pub(crate) fn next_period(
     list: &Boxed<ListSlot>,
     alloc: Global,
@@ -51,11 +48,8 @@ pub(crate) fn next_period(
     }
 }
 
-/// The next period, which has a deque to its left, and room for a thread in the lane of its deque.
-///
-/// # Errors
-///
-/// There is not enough memory, or each number of a period is taken. The lane shows what it showed.
+/// The next period, which has a deque to its left, and room for a thread in the lane of its deque. Fails if there is not enough memory, or each
+/// number of a period is taken. The lane shows what it showed.
 pub(crate) fn next_beside(
     list: &Boxed<ListSlot>,
     new: &mut LaneSlot,

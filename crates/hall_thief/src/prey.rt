@@ -1,7 +1,15 @@
 use containers::Boxed;
 use hall_slots::{LaneSlot, ListSlot};
 use play_rules::RunEnd;
+use std::alloc::Global;
 use turn_table::Held;
+
+/// Who steals, and where its memory is from.
+#[derive(Clone, Copy)]
+pub struct Thief {
+    pub worker: u32,
+    pub alloc: Global,
+}
 
 /// What a thief holds that has found a deque to rob.
 #[derive(Drop)]

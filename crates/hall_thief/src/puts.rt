@@ -1,17 +1,28 @@
-//! The put backs that decide a theft.
+//! The put backs: of a lane in which room was made, and those that decide a theft.
 
-ghost use Rattle.std.specs.Prelude.{◌≡◌, ◌+◌, ◌<◌, ◌∷◌, []};
-ghost use Rattle.turn_table.specs.Tables.{key_of, slot_count, IsSeatOf};
-ghost use Rattle.hall_slots.specs.declared.lane_slot.LaneSlot.{LaneSlot as AnyLane};
-ghost use Rattle.hall_slots.specs.declared.seat_note.SeatNote.{SeatNote as AnyNote};
+ghost use Rattle.std.specs.Prelude.{◌+◌, ◌<◌, ◌≡◌, ◌∷◌, []};
+ghost use Rattle.hall_thief.specs.HallNames.{key_of, slot_count, IsSeatOf, IsGiven, IsPlaced, MeetsLaw, LaneSlot as AnyLane, SeatNote as AnyNote};
+ghost use Rattle.hall_thief.specs.Lanes.{HoldsTheSameLane};
 ghost use Rattle.hall_slots.specs.declared.slot.Slot.TheVariants as slots;
-ghost use Rattle.hall_slots.specs.Takes.{MeetsLaw};
 ghost use Rattle.hall_thief.specs.Thefts.{HasStolen, HasTakenBottom, HasTakenOver, StealsInto, stolen_note};
 
 use containers::Boxed;
 use deque_list::DequeId;
 use hall_slots::{HallPlace, HallRow, LaneSlot, ListSlot, Slot, give_lane_back};
 use std::marker::Brand;
+use turn_table::Keep;
+
+/// Puts back a lane that shows what it showed.
+pub fn give_same_lane_back(row: &HallRow, seat: &mut HallPlace, deque: DequeId, lane: LaneSlot)
+    requires here { IsSeatOf row.now seat.old }
+    requires placed { IsPlaced seat.old }
+    requires slot { deque.0 + 2 < slot_count row.now }
+    requires same { HoldsTheSameLane seat.old deque lane }
+    ensures seat { IsGiven seat.old (deque.0 + 2) seat.new }
+    ensures meets { MeetsLaw (key_of row.now) seat.new }
+{
+    row.put_back::<Keep>(seat, deque.0 + 2, Slot::Lane(lane));
+}
 
 /// The lane in a slot that is one.
 fn lane_in(slot: Slot) -> LaneSlot

@@ -3,18 +3,17 @@
 ghost use Rattle.std.specs.Prelude.{◌≡◌, ◌≢◌, ℕ, ◌<◌, ◌≤◌, [], ◌∷◌, Some, Err, length, slice_get};
 ghost use Rattle.deque_list.specs.declared.place.Place.{Place as AnyPlace};
 ghost use Rattle.deque_list.specs.Ids.{IsSmallestFree, place_ids};
-ghost use Rattle.turn_table.specs.Tables.{key_of, IsSeatOf};
+ghost use Rattle.hall_thief.specs.HallNames.{key_of, IsSeatOf, HallSeat, HasAllPlaces, IsTaken, MeetsLaw};
 ghost use Rattle.hall_slots.specs.declared.slot.Slot.TheVariants as slots;
-ghost use Rattle.hall_slots.specs.Takes.{HallSeat, HasAllPlaces, IsTaken, MeetsLaw};
 ghost use Rattle.hall_thief.specs.declared.refused.StealRefused.TheVariants.{Stopped};
-ghost use Rattle.hall_thief.specs.Prey.{EndsWith, HasBoth, HasPrey, IsNotBusy, IsOneTooMany, MaySteal, StealsWith};
+ghost use Rattle.hall_thief.specs.Prey.{EndsWith, HasBoth, HasPrey, IsNotBusy, IsOneTooMany, IsStealing, MaySteal, StealsWith};
 ghost use Rattle.hall_thief.specs.Steals.{Steals};
 
-use crate::backs::give_same_lane_back;
+use crate::choosing::seek;
 use crate::parts::{deque_at, most_deques, next_beside, next_deque, next_period};
-use crate::prey::Prey;
+use crate::prey::{Prey, Thief};
+use crate::puts::give_same_lane_back;
 use crate::refused::{StealRefused, refusal_of};
-use crate::seeking::seek;
 use crate::thefts::{take_bottom, take_over};
 use containers::Boxed;
 use deque_list::{DequeId, Place};
@@ -25,34 +24,25 @@ use hall_slots::{
 use play_rules::Stop;
 use std::alloc::Global;
 
-/// Takes the deque over that the thief has chosen, which nobody owns and which has one thread.
-///
-/// # Errors
-///
-/// There is not enough memory.
+/// Takes the deque over that the thief has chosen, which nobody owns and which has one thread. Fails if there is not enough memory.
 fn steal_whole(
     row: &HallRow,
     seat: &mut HallPlace,
-    alloc: Global,
-    worker: u32,
-    list: Boxed<ListSlot>,
-    place: u32,
+    thief: Thief,
+    prey: Prey,
     victim: Place,
-    lane: LaneSlot,
 ) -> Result<Event, StealRefused>
     requires here { IsSeatOf row.now seat.old }
-    requires may { MaySteal seat.old worker }
-    requires prey { HasPrey (key_of row.now) list place lane seat.old }
-    requires meets { MeetsLaw (key_of row.now) seat.old }
-    requires victim { slice_get list.part.order.places place ≡ Some victim }
-    requires one { length lane.lane.items < 2 }
-    ensures seat { StealsWith list victim lane seat.old seat.new result }
+    requires stealing { IsStealing (key_of row.now) seat.old thief.worker prey victim }
+    requires one { length prey.lane.lane.items < 2 }
+    ensures seat { StealsWith prey.list victim prey.lane seat.old seat.new result }
     ensures lone { IsNotBusy result }
 {
-    match next_period(&list, alloc, 0 < place) {
+    let Prey { list, place, lane } = prey;
+    match next_period(&list, thief.alloc, 0 < place) {
         Ok(period) => {
             let number = period.number;
-            take_over(row, seat, list, victim.id, lane, worker, period);
+            take_over(row, seat, list, victim.id, lane, thief.worker, period);
             Ok(Event::Stole {
                 deque: victim.id,
                 period: number,
@@ -66,38 +56,42 @@ fn steal_whole(
     }
 }
 
-/// Takes the bottom thread of the deque that the thief has chosen into a free one, whose lane it holds too.
-///
-/// # Errors
-///
-/// There is not enough memory.
+/// Takes the bottom thread of the deque that the thief has chosen into a free one, whose lane it holds too. Fails if there is not enough memory.
 fn steal_into(
     row: &HallRow,
     seat: &mut HallPlace,
-    alloc: Global,
-    worker: u32,
-    list: Boxed<ListSlot>,
-    place: u32,
+    thief: Thief,
+    prey: Prey,
     victim: Place,
-    lane: LaneSlot,
     id: DequeId,
     new: LaneSlot,
 ) -> Result<Event, StealRefused>
     requires here { IsSeatOf row.now seat.old }
-    requires may { MaySteal seat.old worker }
-    requires both { HasBoth (key_of row.now) list place lane id new seat.old }
+    requires may { MaySteal seat.old thief.worker }
+    requires both { HasBoth (key_of row.now) prey.list prey.place prey.lane id new seat.old }
     requires meets { MeetsLaw (key_of row.now) seat.old }
-    requires victim { slice_get list.part.order.places place ≡ Some victim }
-    requires two { 2 ≤ length lane.lane.items }
-    requires next { IsSmallestFree (place_ids list.part.order.places) id }
-    requires few { length list.part.order.places ≢ list.part.order.most }
-    ensures seat { EndsWith list id seat.old seat.new result }
+    requires victim { slice_get prey.list.part.order.places prey.place ≡ Some victim }
+    requires two { 2 ≤ length prey.lane.lane.items }
+    requires next { IsSmallestFree (place_ids prey.list.part.order.places) id }
+    requires few { length prey.list.part.order.places ≢ prey.list.part.order.most }
+    ensures seat { EndsWith prey.list id seat.old seat.new result }
 {
+    let Prey { list, lane, .. } = prey;
     let mut new = new;
-    match next_beside(&list, &mut new, alloc) {
+    match next_beside(&list, &mut new, thief.alloc) {
         Ok(period) => {
             let number = period.number;
-            take_bottom(row, seat, list, victim.id, lane, id, new, worker, period);
+            take_bottom(
+                row,
+                seat,
+                list,
+                victim.id,
+                lane,
+                id,
+                new,
+                thief.worker,
+                period,
+            );
             Ok(Event::Stole {
                 deque: id,
                 period: number,
@@ -112,98 +106,70 @@ fn steal_into(
     }
 }
 
-/// Takes the bottom thread of the deque that the thief has chosen into the next free one.
-///
-/// # Errors
-///
-/// Another seat holds the lane of this one: then all is put back. Or there is not enough memory.
+/// Takes the bottom thread of the deque that the thief has chosen into the next free one. Fails if another seat holds the lane of this one,
+/// and then all is put back; or if there is not enough memory.
 fn steal_bottom(
     row: &HallRow,
     seat: &mut HallPlace,
-    alloc: Global,
-    worker: u32,
-    list: Boxed<ListSlot>,
-    place: u32,
+    thief: Thief,
+    prey: Prey,
     victim: Place,
-    lane: LaneSlot,
     id: DequeId,
 ) -> Result<Event, StealRefused>
     requires here { IsSeatOf row.now seat.old }
-    requires may { MaySteal seat.old worker }
-    requires prey { HasPrey (key_of row.now) list place lane seat.old }
-    requires meets { MeetsLaw (key_of row.now) seat.old }
-    requires victim { slice_get list.part.order.places place ≡ Some victim }
-    requires two { 2 ≤ length lane.lane.items }
-    requires next { IsSmallestFree (place_ids list.part.order.places) id }
-    requires below { id.0 < list.part.order.most }
-    requires few { length list.part.order.places ≢ list.part.order.most }
-    ensures seat { StealsWith list victim lane seat.old seat.new result }
+    requires stealing { IsStealing (key_of row.now) seat.old thief.worker prey victim }
+    requires two { 2 ≤ length prey.lane.lane.items }
+    requires next { IsSmallestFree (place_ids prey.list.part.order.places) id }
+    requires below { id.0 < prey.list.part.order.most }
+    requires few { length prey.list.part.order.places ≢ prey.list.part.order.most }
+    ensures seat { StealsWith prey.list victim prey.lane seat.old seat.new result }
     ensures lone { HasAllPlaces (key_of row.now) seat.old → IsNotBusy result }
 {
     match take_lane(row, seat, id) {
-        Ok(new) => steal_into(row, seat, alloc, worker, list, place, victim, lane, id, new),
+        Ok(new) => steal_into(row, seat, thief, prey, victim, id, new),
         Err(held) => {
-            give_lane_back(row, seat, victim.id, lane);
-            give_list_back(row, seat, list);
+            give_lane_back(row, seat, victim.id, prey.lane);
+            give_list_back(row, seat, prey.list);
             Err(StealRefused::Busy(held))
         }
     }
 }
 
 /// Keeps the stop that one deque more would be too many.
-fn stop_at_full(
-    row: &HallRow,
-    seat: &mut HallPlace,
-    list: Boxed<ListSlot>,
-    place: u32,
-    victim: Place,
-    lane: LaneSlot,
-) -> Stop
+fn stop_at_full(row: &HallRow, seat: &mut HallPlace, prey: Prey, victim: Place) -> Stop
     requires here { IsSeatOf row.now seat.old }
-    requires may { (worker : ℕ) × MaySteal seat.old worker }
-    requires prey { HasPrey (key_of row.now) list place lane seat.old }
-    requires meets { MeetsLaw (key_of row.now) seat.old }
-    requires victim { slice_get list.part.order.places place ≡ Some victim }
-    requires full { IsOneTooMany list lane }
-    ensures { StealsWith list victim lane seat.old seat.new (Err (Stopped result)) }
+    requires stealing { (worker : ℕ) × IsStealing (key_of row.now) seat.old worker prey victim }
+    requires full { IsOneTooMany prey.list prey.lane }
+    ensures { StealsWith prey.list victim prey.lane seat.old seat.new (Err (Stopped result)) }
 {
     let stop = Stop::DequesFull {
-        deques: most_deques(&list),
+        deques: most_deques(&prey.list),
     };
-    put_stopped(row, seat, list, stop);
-    give_lane_back(row, seat, victim.id, lane);
+    put_stopped(row, seat, prey.list, stop);
+    give_lane_back(row, seat, victim.id, prey.lane);
     stop
 }
 
-/// Steals from the deque that the thief has chosen.
-///
-/// # Errors
-///
-/// Another seat holds the lane of the new deque: then all is put back. Or no further deque is allowed, or there is not enough memory.
+/// Steals from the deque that the thief has chosen. Fails if another seat holds the lane of the new deque, and then all is put back; or if
+/// no further deque is allowed, or there is not enough memory.
 fn steal_from(
     row: &HallRow,
     seat: &mut HallPlace,
-    alloc: Global,
-    worker: u32,
-    list: Boxed<ListSlot>,
-    place: u32,
+    thief: Thief,
+    prey: Prey,
     victim: Place,
-    lane: LaneSlot,
 ) -> Result<Event, StealRefused>
     requires here { IsSeatOf row.now seat.old }
-    requires may { MaySteal seat.old worker }
-    requires prey { HasPrey (key_of row.now) list place lane seat.old }
-    requires meets { MeetsLaw (key_of row.now) seat.old }
-    requires victim { slice_get list.part.order.places place ≡ Some victim }
-    ensures seat { StealsWith list victim lane seat.old seat.new result }
+    requires stealing { IsStealing (key_of row.now) seat.old thief.worker prey victim }
+    ensures seat { StealsWith prey.list victim prey.lane seat.old seat.new result }
     ensures lone { HasAllPlaces (key_of row.now) seat.old → IsNotBusy result }
 {
-    if lane.lane.len() < 2 {
-        return steal_whole(row, seat, alloc, worker, list, place, victim, lane);
+    if prey.lane.lane.len() < 2 {
+        return steal_whole(row, seat, thief, prey, victim);
     }
-    match next_deque(&list) {
-        Some(id) => steal_bottom(row, seat, alloc, worker, list, place, victim, lane, id),
-        None => Err(StealRefused::Stopped(stop_at_full(row, seat, list, place, victim, lane))),
+    match next_deque(&prey.list) {
+        Some(id) => steal_bottom(row, seat, thief, prey, victim, id),
+        None => Err(StealRefused::Stopped(stop_at_full(row, seat, prey, victim))),
     }
 }
 
@@ -211,21 +177,19 @@ fn steal_from(
 fn steal_prey(
     row: &HallRow,
     seat: &mut HallPlace,
-    alloc: Global,
-    worker: u32,
+    thief: Thief,
     prey: Prey,
 ) -> Result<Event, StealRefused>
     requires here { IsSeatOf row.now seat.old }
-    requires may { MaySteal seat.old worker }
+    requires may { MaySteal seat.old thief.worker }
     requires prey { HasPrey (key_of row.now) prey.list prey.place prey.lane seat.old }
     requires meets { MeetsLaw (key_of row.now) seat.old }
     ensures seat { (victim : AnyPlace) → slice_get prey.list.part.order.places prey.place ≡ Some victim
         → StealsWith prey.list victim prey.lane seat.old seat.new result }
     ensures lone { HasAllPlaces (key_of row.now) seat.old → IsNotBusy result }
 {
-    let Prey { list, place, lane } = prey;
-    match deque_at(&list, place) {
-        Some(victim) => steal_from(row, seat, alloc, worker, list, place, victim, lane),
+    match deque_at(&prey.list, prey.place) {
+        Some(victim) => steal_from(row, seat, thief, prey, victim),
         None => unreachable!(),
     }
 }
@@ -258,7 +222,7 @@ pub fn steal(
     ensures lone { HasAllPlaces (key_of row.now) seat.old → IsNotBusy result }
 {
     match seek(row, seat, list, workers, word) {
-        Ok(prey) => steal_prey(row, seat, alloc, worker, prey),
+        Ok(prey) => steal_prey(row, seat, Thief { worker, alloc }, prey),
         Err(refused) => Err(refusal_of(refused)),
     }
 }

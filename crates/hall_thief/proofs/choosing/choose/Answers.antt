@@ -1,11 +1,8 @@
 use Rattle.std.proofs.Common.{◌+◌, ◌<◌, [], ◌∷◌, ◌++◌, sym, ap, ◌∙◌, subst, arith}
 use Rattle.std.proofs.lemmas.Result.{err_from_is_err_and}
 use Rattle.std.specs.Prelude.{Option, min, length, slice_get}
-use Rattle.turn_table.specs.Tables.{key_of}
+use Rattle.hall_thief.specs.HallNames.{key_of, LaneSlot, ListSlot, HallSeat}
 use Rattle.turn_table.proofs.Standing.{slots_of_seat}
-use Rattle.hall_slots.specs.declared.lane_slot.LaneSlot.{LaneSlot}
-use Rattle.hall_slots.specs.declared.list_slot.ListSlot.{ListSlot}
-use Rattle.hall_slots.specs.Takes.{HallSeat}
 use Rattle.hall_thief.specs.Choosing.{took_lane, HasTried}
 use Rattle.hall_thief.proofs.Inside.{slot_inside}
 use Rattle.hall_thief.proofs.Chosen.{held_off, told_twice, tried_all, try_more, victim_of}

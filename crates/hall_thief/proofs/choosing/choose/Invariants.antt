@@ -1,9 +1,7 @@
 -- The seat was told of the lanes that it tried, those of the turns so far.
 use Rattle.std.proofs.Common.{◌≤◌, List}
-use Rattle.turn_table.specs.Tables.{key_of}
+use Rattle.hall_thief.specs.HallNames.{key_of, Slot, MeetsLaw}
 use Rattle.turn_table.specs.declared.look.Look.{Look}
-use Rattle.hall_slots.specs.declared.slot.Slot.{Slot}
-use Rattle.hall_slots.specs.Takes.{MeetsLaw}
 use Rattle.hall_thief.specs.Choosing.{IsToldMore, Tried}
 use Rattle.hall_thief.proofs.choosing.choose.Given as goal
 

@@ -1,8 +1,6 @@
 use Rattle.std.proofs.Common.{◌+◌, inl, refl, sym, ap, subst}
-use Rattle.turn_table.specs.Notes.{HasAs}
-use Rattle.turn_table.specs.Tables.{key_of}
+use Rattle.hall_thief.specs.HallNames.{HasAs, key_of, HallSeat}
 use Rattle.hall_slots.specs.declared.slot.Slot.TheVariants as slots
-use Rattle.hall_slots.specs.Takes.{HallSeat}
 use Rattle.hall_thief.proofs.PutOver.{stolen_back}
 use Rattle.hall_thief.proofs.PutBeside.{victim_back}
 use Rattle.hall_thief.proofs.puts.put_beside.Goals as goal

@@ -1,8 +1,6 @@
 use Rattle.std.proofs.Common.{◌+◌, ◌<◌, inl, refl, sym, ap, ◌∙◌, subst}
-use Rattle.turn_table.specs.Notes.{HasAs}
-use Rattle.hall_slots.specs.declared.seat_note.SeatNote.{SeatNote}
+use Rattle.hall_thief.specs.HallNames.{HasAs, SeatNote, HallSeat}
 use Rattle.hall_slots.specs.declared.slot.Slot.TheVariants as slots
-use Rattle.hall_slots.specs.Takes.{HallSeat}
 use Rattle.hall_thief.proofs.PutOver.{stolen_back}
 use Rattle.hall_thief.proofs.puts.put_over.Goals as goal
 

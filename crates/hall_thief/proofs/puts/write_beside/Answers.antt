@@ -1,7 +1,6 @@
 use Rattle.std.proofs.Common.{◌+◌, [], ◌∷◌, sym, ◌∙◌, subst}
 use Rattle.turn_table.specs.Hands.{shown_by}
-use Rattle.turn_table.specs.Tables.{key_of}
-use Rattle.hall_slots.specs.declared.slot.Slot.{Slot}
+use Rattle.hall_thief.specs.HallNames.{key_of, Slot}
 use Rattle.hall_thief.specs.Thefts.{StealsInto}
 use Rattle.hall_thief.proofs.Beside.{ids_apart}
 use Rattle.hall_thief.proofs.PutBeside.{named_first, named_second, beside_keeps, beside_stolen}

@@ -10,33 +10,33 @@ use Rattle.hall_thief.proofs.stealing.steal_whole.Goals as goal
 
 pub take_over-requires-clause-slot : goal.take_over-requires-clause-slot
 take_over-requires-clause-slot c = subst (λ n. c.args.victim.id.0 + 2 < n) (slots_of_seat c.args.row.now c.args.seat.now c.requires.here)
-    (inside (key_of c.args.row.now) c.args.list c.args.place c.args.lane c.args.seat.now c.requires.prey c.args.victim c.requires.victim c.requires.meets)
+    (inside (key_of c.args.row.now) c.args.prey.list c.args.prey.place c.args.prey.lane c.args.seat.now c.requires.stealing.has c.args.victim c.requires.stealing.there c.requires.stealing.meets)
 
 pub take_over-requires-clause-may : goal.take_over-requires-clause-may
 take_over-requires-clause-may c =
-    let one = alone_in_it (key_of c.args.row.now) c.args.list c.args.place c.args.lane c.args.seat.now c.requires.prey c.args.victim c.requires.victim c.requires.meets c.requires.one in
-    may_take_over (key_of c.args.row.now) c.args.list c.args.place c.args.lane c.args.seat.now c.requires.prey c.args.victim c.requires.victim c.args.worker c.in-Ok.period one.0 c.requires.may one.1
+    let one = alone_in_it (key_of c.args.row.now) c.args.prey.list c.args.prey.place c.args.prey.lane c.args.seat.now c.requires.stealing.has c.args.victim c.requires.stealing.there c.requires.stealing.meets c.requires.one in
+    may_take_over (key_of c.args.row.now) c.args.prey.list c.args.prey.place c.args.prey.lane c.args.seat.now c.requires.stealing.has c.args.victim c.requires.stealing.there c.args.thief.worker c.in-Ok.period one.0 c.requires.stealing.may one.1
     c.in-Ok.ensures
 
 pub give_lane_back-requires-clause-slot : goal.give_lane_back-requires-clause-slot
 give_lane_back-requires-clause-slot c = subst (λ n. c.args.victim.id.0 + 2 < n) (slots_of_seat c.args.row.now c.args.seat.now c.requires.here)
-    (inside (key_of c.args.row.now) c.args.list c.args.place c.args.lane c.args.seat.now c.requires.prey c.args.victim c.requires.victim c.requires.meets)
+    (inside (key_of c.args.row.now) c.args.prey.list c.args.prey.place c.args.prey.lane c.args.seat.now c.requires.stealing.has c.args.victim c.requires.stealing.there c.requires.stealing.meets)
 
 pub returns-in-Ok-clause-seat : goal.returns-in-Ok-clause-seat
 returns-in-Ok-clause-seat c =
-    let one = alone_in_it (key_of c.args.row.now) c.args.list c.args.place c.args.lane c.args.seat.now c.requires.prey c.args.victim c.requires.victim c.requires.meets c.requires.one in (
+    let one = alone_in_it (key_of c.args.row.now) c.args.prey.list c.args.prey.place c.args.prey.lane c.args.seat.now c.requires.stealing.has c.args.victim c.requires.stealing.there c.requires.stealing.meets c.requires.one in (
       c.args.victim.id,
       [],
       inl (record {
         its_id = refl;
-        unowned = unowned (key_of c.args.row.now) c.args.list c.args.place c.args.lane c.args.seat.now c.requires.prey c.args.victim c.requires.victim one.0 one.1;
+        unowned = unowned (key_of c.args.row.now) c.args.prey.list c.args.prey.place c.args.prey.lane c.args.seat.now c.requires.stealing.has c.args.victim c.requires.stealing.there one.0 one.1;
         one = c.requires.one;
         told = refl;
       }),
       (
         ap (λ n. Stole c.args.victim.id n) (IsNew.number_is c.in-Ok.ensures),
-        inside (key_of c.args.row.now) c.args.list c.args.place c.args.lane c.args.seat.now c.requires.prey c.args.victim c.requires.victim c.requires.meets,
-        stolen_now c.args.seat.now c.take_over.new.seat c.args.victim.id c.in-Ok.period.number (c.args.list.part.begun + 1) (IsNew.number_is c.in-Ok.ensures) c.take_over.ensures.seat,
+        inside (key_of c.args.row.now) c.args.prey.list c.args.prey.place c.args.prey.lane c.args.seat.now c.requires.stealing.has c.args.victim c.requires.stealing.there c.requires.stealing.meets,
+        stolen_now c.args.seat.now c.take_over.new.seat c.args.victim.id c.in-Ok.period.number (c.args.prey.list.part.begun + 1) (IsNew.number_is c.in-Ok.ensures) c.take_over.ensures.seat,
       ),
     )
 
@@ -45,6 +45,6 @@ returns-in-Err-clause-seat c = (
   [],
   (λ many. let few = c.requires.one in let two = many.0 in omega (arith, few, two)),
   inl (c.requires.one, refl),
-  stopped_two c.args.seat.now c.put_stopped.new.seat c.give_lane_back.new.seat _ c.args.victim.id.0 (slots.Lane c.args.lane) (slots.List c.args.list)
-      (held_two (key_of c.args.row.now) c.args.list c.args.place c.args.lane c.args.seat.now c.requires.prey c.args.victim c.requires.victim) c.put_stopped.ensures.seat c.give_lane_back.ensures.seat,
+  stopped_two c.args.seat.now c.put_stopped.new.seat c.give_lane_back.new.seat _ c.args.victim.id.0 (slots.Lane c.args.prey.lane) (slots.List c.args.prey.list)
+      (held_two (key_of c.args.row.now) c.args.prey.list c.args.prey.place c.args.prey.lane c.args.seat.now c.requires.stealing.has c.args.victim c.requires.stealing.there) c.put_stopped.ensures.seat c.give_lane_back.ensures.seat,
 )

@@ -1,13 +1,12 @@
 use Rattle.std.proofs.Common.{ℕ, ◌+◌, ◌∷◌, ◌++◌, ap, ◌∙◌, subst}
 use Rattle.std.specs.Prelude.{◌≡◌, Some, insert}
-use Rattle.deque_list.specs.declared.deque_id.DequeId.{DequeId}
+use Rattle.hall_thief.specs.HallNames.{DequeId, ListSlot}
 use Rattle.deque_list.specs.declared.place.Place.{Place}
 use Rattle.deque_list.specs.Ids.{IsSmallestFree, StandsAt, place_ids}
 use Rattle.deque_list.proofs.LawLemmas.{one_smallest_free}
 use Rattle.hall_slots.specs.Passed.Parts.{place_with}
-use Rattle.hall_slots.specs.declared.list_slot.ListSlot.{ListSlot}
 use Rattle.hall_thief.proofs.Parted.{beside, robbed_of, live_in}
-use Rattle.hall_thief.proofs.writes.insert_in.Goals as goal
+use Rattle.hall_thief.proofs.thefts.insert_in.Goals as goal
 
 pub insert_right-requires : goal.insert_right-requires
 insert_right-requires c = live_in c.args.list.now c.get_mut-list.result.now c.get_mut-list.ensures.value c.args.victim c.requires.has.0 c.requires.has.1

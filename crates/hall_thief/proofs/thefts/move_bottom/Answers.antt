@@ -1,7 +1,7 @@
 use Rattle.std.proofs.Common.{List, [], ◌∷◌, ap, ◌∙◌}
 use Rattle.hall_slots.specs.Passed.Thread.{Thread}
 use Rattle.hall_thief.proofs.Parted.{others_left, bottom_found}
-use Rattle.hall_thief.proofs.writes.move_bottom.Goals as goal
+use Rattle.hall_thief.proofs.thefts.move_bottom.Goals as goal
 
 pub returns-clause-items : goal.returns-clause-items
 returns-clause-items c first others bottom are = (

@@ -5,7 +5,7 @@ use Rattle.deque_list.specs.Ids.{StandsAt}
 use Rattle.hall_slots.specs.Passed.Parts.{place_with}
 use Rattle.hall_slots.specs.declared.list_slot.ListSlot.{ListSlot}
 use Rattle.hall_thief.proofs.Parted.{owned, robbed_of, stands_in}
-use Rattle.hall_thief.proofs.writes.own_in.Goals as goal
+use Rattle.hall_thief.proofs.thefts.own_in.Goals as goal
 
 pub take_over-requires : goal.take_over-requires
 take_over-requires c = record { unowned = (_, place_with c.args.id None, stands_in c.args.list.now c.get_mut-list.result.now c.get_mut-list.ensures.value c.args.id None c.requires.has, refl) }
