@@ -3,31 +3,23 @@ use Rattle.std.proofs.Common.{◌≡◌, ℕ, ◌+◌, ◌≤◌, List, ◌∷�
 use Rattle.std.proofs.Math.Logic.{∥∥₁_map}
 use Rattle.std.specs.List.Sorted.{IsPermutation}
 use Rattle.std.specs.Prelude.{Option, None, Some, slice_get, slice_set}
-use Rattle.deque_list.specs.declared.deque_id.DequeId.{DequeId}
+use Rattle.hall_parts.specs.HallNames.{DequeId, Event, SeatNote, list_shown, pool_shown, lane_shown, view_of, HallKey, table_of, quota_of, terms_of}
+use Rattle.hall_parts.specs.HallNames.{HallSeat, Terms, machine_of, Setting, Hall, lane_at}
 use Rattle.hall_interleavings.specs.Events.{seen, IsEvent, does_an_action, has_to_pause, gives_up_freely, given_up}
 use Rattle.hall_interleavings.proofs.Going.{events_go_on}
 use Rattle.hall_slots.proofs.Passed.Built.{whole_is_depth_first}
 use Rattle.hall_slots.proofs.Passed.Quiet.{quiet_puts_go_on}
 use Rattle.hall_slots.specs.Passed.DepthFirstListActions.{record_words}
 use Rattle.hall_slots.specs.Passed.Machine as machine
-use Rattle.hall_slots.specs.Passed.Terms.{Terms, machine_of}
-use Rattle.hall_slots.specs.Passed.States.{Setting}
 use Rattle.moment_laws.specs.Passed.Parts.{Thread, Result}
 use Rattle.thread_state.specs.Settings.{IsSettingOf}
 use Rattle.hall_slots.specs.Passed.Changes.{after_event}
 use Rattle.hall_slots.specs.Passed.HallMachineViews.{View}
 use Rattle.hall_slots.specs.Passed.State.{RunningState}
 use Rattle.hall_slots.specs.Passed.Steps.{Step, did, waited, gave_up}
-use Rattle.hall_slots.specs.Passed.Values.{Hall, lane_at}
 use Rattle.hall_slots.specs.Passed.Writing.{IsAtWork, step_of}
-use Rattle.hall_slots.specs.declared.event.Event.{Event}
 use Rattle.hall_slots.specs.declared.event.Event.TheVariants.{Stole, Did, Suspended, GaveUp, Halted}
-use Rattle.hall_slots.specs.declared.seat_note.SeatNote.{SeatNote}
-use Rattle.hall_slots.specs.Shown.{list_shown, pool_shown, lane_shown, view_of}
-use Rattle.hall_slots.specs.declared.key.HallKey.{HallKey}
-use Rattle.hall_slots.specs.Keys.{table_of, quota_of, terms_of}
 use Rattle.hall_slots.specs.Steps.{IsRunning}
-use Rattle.hall_slots.specs.Takes.{HallSeat}
 use Rattle.hall_parts.specs.Writes.{Parts, hall_with, told_note}
 use Rattle.hall_parts.specs.EventParts.{MayGoOn}
 use Rattle.hall_parts.specs.Puts.{note_of}

@@ -5,15 +5,12 @@ use Rattle.std.proofs.lemmas.List.Sorted.{IsPermutation-refl}
 use Rattle.std.specs.List.Sorted.{IsPermutation}
 use Rattle.std.specs.Option.{option_map}
 use Rattle.std.specs.Prelude.{Option, None, Some}
-use Rattle.dag_order.specs.declared.action_id.ActionId.{ActionId}
 use Rattle.dag_order.specs.declared.finish.Finish.{Finish}
-use Rattle.dag_order.specs.declared.thread_id.ThreadId.{ThreadId}
-use Rattle.deque_list.specs.declared.deque_id.DequeId.{DequeId}
+use Rattle.hall_parts.specs.HallNames.{DequeId, Each, ListSlot, PoolSlot, LaneSlot, list_shown, pool_shown, running_shown, end_shown, HallKey, terms_of}
+use Rattle.hall_parts.specs.HallNames.{ActionId, ThreadId, machine_of, Hall, ListShown, PoolShown, no_lane, finished}
 use Rattle.hall_interleavings.specs.Events.{ActsOn, NobodyAwaits, ends_and_wakes, ends_and_leaves, root_ends, joins_kept}
 use Rattle.hall_slots.specs.Passed.ListChangesEvents.{DidEnd}
-use Rattle.hall_slots.specs.Passed.Terms.{machine_of}
 use Rattle.hall_slots.specs.Passed.Run.{list_of}
-use Rattle.hall_slots.specs.Passed.Lists.{Each}
 use Rattle.hall_slots.proofs.Passed.DequeMachineLists.{each_map}
 use Rattle.moment_laws.specs.Passed.Parts as shown
 use Rattle.hall_slots.specs.Passed.Periods.{open_shown}
@@ -27,19 +24,12 @@ use Rattle.hall_slots.specs.Passed.NextVariants as nexts
 use Rattle.hall_slots.specs.Passed.Thread.{Thread}
 use Rattle.hall_slots.specs.Passed.ThreadFramesKept.{WaitsUnder}
 use Rattle.hall_slots.specs.Passed.Shown.{thread_shown, result_shown}
-use Rattle.hall_slots.specs.Passed.Values.{Hall, ListShown, PoolShown, no_lane, finished}
 use Rattle.hall_slots.specs.Passed.Writing.{lane_with, list_without, written, IsHanded, PoolTakes}
 use Rattle.hall_parts.specs.Here.{ShowsOwn, TakesWords}
 use Rattle.hall_parts.specs.Ends.{EndsHere}
 use Rattle.hall_parts.specs.Joins.{JoinsHere}
 use Rattle.hall_parts.specs.ListCalls.{LeavesThere, TakesWaiting, IsHandedThere}
 use Rattle.hall_slots.specs.declared.event.Event.TheVariants.{Did}
-use Rattle.hall_slots.specs.declared.list_slot.ListSlot.{ListSlot}
-use Rattle.hall_slots.specs.declared.pool_slot.PoolSlot.{PoolSlot}
-use Rattle.hall_slots.specs.declared.lane_slot.LaneSlot.{LaneSlot}
-use Rattle.hall_slots.specs.Shown.{list_shown, pool_shown, running_shown, end_shown}
-use Rattle.hall_slots.specs.declared.key.HallKey.{HallKey}
-use Rattle.hall_slots.specs.Keys.{terms_of}
 use Rattle.hall_parts.specs.Writes.{Parts, parts, hall_with}
 use Rattle.hall_parts.specs.EventParts.{IsAtAction, IsNext, IsUnawaited}
 use Rattle.hall_parts.specs.Writing.{AtWorkWith, WritesInAnOrder, DoesEvent, in_order, at_work_there}

@@ -2,11 +2,7 @@
 use Rattle.std.proofs.Common.{◌≡◌, List, ◌∷◌, sym, ap, subst, ◌∙◌}
 use Rattle.std.proofs.lemmas.Option.{same_Some}
 use Rattle.std.specs.Prelude.{Some, slice_get, drop}
-use Rattle.thread_frames.specs.Children.{IsAwaited}
-use Rattle.thread_frames.specs.Views.{children_of, label_of}
-use Rattle.thread_frames.specs.declared.ended.Ended.{Ended}
-use Rattle.thread_frames.specs.declared.thread.Thread.{Thread}
-use Rattle.thread_frames.specs.Shown.{thread_shown, result_shown}
+use Rattle.hall_parts.specs.HallNames.{IsAwaited, children_of, label_of, Ended, Thread, thread_shown, result_shown}
 use Rattle.thread_frames.proofs.Threads.{deliveries_hand_over}
 use Rattle.thread_actions.specs.Results.{IsGiven}
 use Rattle.hall_slots.specs.Passed.Writing.{IsHanded}

@@ -5,22 +5,14 @@ use Rattle.std.specs.Prelude.{slice_set}
 use mathlib.Core.Option.{some}
 use lib.ListN.{get_elem?}
 use lib.Seq.{map-set}
-use Rattle.deque_list.specs.declared.deque_id.DequeId.{DequeId}
-use Rattle.hall_slots.specs.Passed.Terms.{Terms, machine_of}
-use Rattle.hall_slots.specs.Passed.States.{Setting}
+use Rattle.hall_parts.specs.HallNames.{DequeId, SeatNote, Slot, value_of, view_of, list_shown, pool_shown, HallKey, table_of, quota_of, terms_of, HallSeat}
+use Rattle.hall_parts.specs.HallNames.{Terms, machine_of, Setting, Hall}
 use Rattle.thread_state.specs.Settings.{IsSettingOf}
-use Rattle.hall_slots.specs.Passed.Values.{Hall}
 use Rattle.hall_slots.specs.Passed.Writing.{lane_slot}
 use Rattle.hall_slots.specs.Passed.State.{HallLaw}
-use Rattle.hall_slots.specs.declared.seat_note.SeatNote.{SeatNote}
-use Rattle.hall_slots.specs.declared.slot.Slot.{Slot}
 use Rattle.hall_slots.specs.declared.slot.Slot.TheVariants as slots
-use Rattle.hall_slots.specs.Shown.{value_of, view_of, list_shown, pool_shown}
-use Rattle.hall_slots.specs.declared.key.HallKey.{HallKey}
-use Rattle.hall_slots.specs.Keys.{table_of, quota_of, terms_of}
 use Rattle.hall_slots.specs.Law.{HallHolds, IsShaped}
 use Rattle.hall_slots.specs.Steps.{hall_shown}
-use Rattle.hall_slots.specs.Takes.{HallSeat}
 use Rattle.hall_slots.proofs.Lone.{noted_at}
 use Rattle.hall_slots.proofs.Putting.{law_of, shaped_set}
 use Rattle.hall_slots.proofs.Written.{list_at, pool_at, lane_shown_at, list_written, pool_written, lane_written}

@@ -4,12 +4,10 @@ use Rattle.std.proofs.Math.Logic.{∥∥₁_map}
 use Rattle.std.proofs.lemmas.List.Sorted.{IsPermutation-refl}
 use Rattle.std.specs.Option.{option_map}
 use Rattle.std.specs.Prelude.{Option, Some}
-use Rattle.dag_order.specs.declared.action_id.ActionId.{ActionId}
 use Rattle.dag_order.specs.declared.birth.Birth.{Birth}
-use Rattle.dag_order.specs.declared.thread_id.ThreadId.{ThreadId}
-use Rattle.deque_list.specs.declared.deque_id.DequeId.{DequeId}
+use Rattle.hall_parts.specs.HallNames.{DequeId, list_shown, lane_shown, pool_shown, running_shown, HallKey, terms_of, ActionId, ThreadId, machine_of, Hall}
+use Rattle.hall_parts.specs.HallNames.{ListShown, PoolShown, LaneShown, lane_at}
 use Rattle.hall_interleavings.specs.Events.{ActsOn, acts_in_lane, ends_above}
-use Rattle.hall_slots.specs.Passed.Terms.{machine_of}
 use Rattle.hall_slots.specs.Passed.Facts.{words_at}
 use Rattle.hall_slots.specs.Passed.Run.{list_of}
 use Rattle.moment_laws.specs.Passed.Parts as shown
@@ -23,15 +21,11 @@ use Rattle.hall_slots.specs.Passed.NextVariants as nexts
 use Rattle.hall_slots.specs.Passed.Thread.{Thread}
 use Rattle.hall_slots.specs.Passed.Shown.{thread_shown, result_shown}
 use Rattle.hall_slots.specs.Passed.ListChangesEvents.{DidJoin, DidEnd}
-use Rattle.hall_slots.specs.Passed.Values.{Hall, ListShown, PoolShown, LaneShown, lane_at}
 use Rattle.hall_slots.specs.Passed.Writing.{lane_with, written, joins_handed, PoolTakes}
 use Rattle.hall_parts.specs.Here.{ShowsOwn, ActsHere, TakesWords}
 use Rattle.hall_parts.specs.Ends.{EndsAbove}
 use Rattle.hall_parts.specs.Joins.{JoinsHere}
 use Rattle.hall_slots.specs.declared.event.Event.TheVariants.{Did}
-use Rattle.hall_slots.specs.Shown.{list_shown, lane_shown, pool_shown, running_shown}
-use Rattle.hall_slots.specs.declared.key.HallKey.{HallKey}
-use Rattle.hall_slots.specs.Keys.{terms_of}
 use Rattle.hall_parts.specs.Writes.{Parts, hall_with}
 use Rattle.hall_parts.specs.EventParts.{IsAtAction, IsNext, MayDoNext}
 use Rattle.hall_parts.specs.Writing.{AtWorkWith, WritesInAnOrder, DoesEvent}

@@ -6,7 +6,9 @@ use Rattle.std.specs.Option.{option_map}
 use Rattle.std.specs.Prelude.{Option, None, Some, slice_get, slice_set}
 use Rattle.atomic_table.proofs.Lists.{set_again}
 use Rattle.dag_order.specs.Births.{root}
-use Rattle.deque_list.specs.declared.deque_id.DequeId.{DequeId}
+use Rattle.hall_parts.specs.HallNames.{DequeId, Each, list_shown, pool_shown, lane_shown, stop_shown, end_shown, view_of, table_of, quota_of, terms_of}
+use Rattle.hall_parts.specs.HallNames.{HallSeat, HallKey, ListSlot, SeatNote, Setting, Terms, machine_of, Hall, End, ListShown, no_memory, lane_at, Kept}
+use Rattle.hall_parts.specs.HallNames.{kept_under, thread_that_waits}
 use Rattle.hall_interleavings.specs.Events.{seen, IsEvent, leaves_as_owner, given_up}
 use Rattle.hall_slots.specs.Passed.Quiet.{kept_with}
 use Rattle.hall_slots.proofs.Passed.Halting.{answers_keep_crew, stops_are_kept}
@@ -18,17 +20,13 @@ use Rattle.hall_slots.specs.Passed.Changes.{after_event}
 use Rattle.hall_slots.specs.Passed.Crew.{HasCauseAmong}
 use Rattle.hall_slots.specs.Passed.DepthFirstListActions.{record_words}
 use Rattle.hall_slots.specs.Passed.HallMachineViews.{View}
-use Rattle.hall_slots.specs.Passed.Lists.{Each}
 use Rattle.hall_slots.specs.Passed.Machine.{gives_up}
 use Rattle.hall_slots.specs.Passed.Roots.{end_of_root}
 use Rattle.hall_slots.specs.Passed.Seats.{with_crew, end_with, finding, leaving}
 use Rattle.hall_slots.specs.Passed.State.{RunningState}
-use Rattle.hall_slots.specs.Passed.States.{Setting}
 use Rattle.hall_slots.specs.Passed.Steps.{gave_up}
-use Rattle.hall_slots.specs.Passed.Terms.{Terms, machine_of}
 use Rattle.hall_slots.specs.Passed.ThreadFramesKept.{WaitsUnder, IsUnderItsId}
 use Rattle.hall_slots.specs.Passed.ThreadFramesPoints.{IsAtPoint, IsResult}
-use Rattle.hall_slots.specs.Passed.Values.{Hall, End, ListShown, no_memory, lane_at}
 use Rattle.hall_slots.specs.Passed.Writing.{IsAtWork, step_of}
 use Rattle.deque_list.specs.declared.place.Place.{Place}
 use Rattle.hall_slots.specs.Passed.Ended.{Ended}
@@ -38,18 +36,10 @@ use Rattle.play_rules.specs.declared.ends.RunEnd.{RunEnd}
 use Rattle.play_rules.specs.declared.ends.RunEnd.TheVariants.{Finished}
 use Rattle.play_rules.specs.declared.stop.Stop.{Stop}
 use Rattle.play_rules.specs.declared.stop.Stop.TheVariants.{OutOfMemory}
-use Rattle.thread_map.specs.Kept.{Kept, kept_under}
 use Rattle.thread_state.specs.Settings.{IsSettingOf}
 use Rattle.hall_slots.specs.ListCalls.{end_kept}
-use Rattle.hall_slots.specs.Shown.{list_shown, pool_shown, lane_shown, stop_shown, end_shown, view_of}
-use Rattle.hall_slots.specs.Keys.{table_of, quota_of, terms_of}
-use Rattle.hall_slots.specs.Sound.{thread_that_waits}
 use Rattle.hall_slots.specs.Steps.{IsRunning}
-use Rattle.hall_slots.specs.Takes.{HallSeat}
 use Rattle.hall_slots.specs.declared.event.Event.TheVariants.{GaveUp}
-use Rattle.hall_slots.specs.declared.key.HallKey.{HallKey}
-use Rattle.hall_slots.specs.declared.list_slot.ListSlot.{ListSlot}
-use Rattle.hall_slots.specs.declared.seat_note.SeatNote.{SeatNote}
 use Rattle.hall_slots.proofs.Halts.{shown_end}
 use Rattle.hall_slots.proofs.Left.{shown_left, kept_left, finished_left}
 use Rattle.hall_slots.proofs.Listed.{shows_crew}

@@ -1,15 +1,8 @@
 -- What an event wrote may be put back.
 use Rattle.std.proofs.Common.{◌≡◌, ◌<◌, ◌≤◌}
-use Rattle.deque_list.specs.declared.deque_id.DequeId.{DequeId}
+use Rattle.hall_parts.specs.HallNames.{DequeId, LaneSlot, ListSlot, PoolSlot, SeatNote, HallKey, table_of, quota_of, HallSeat}
 use Rattle.hall_slots.specs.Passed.DepthFirstListActions.{record_words}
 use Rattle.hall_slots.specs.Passed.ThreadFramesPoints.{IsAtPoint}
-use Rattle.hall_slots.specs.declared.lane_slot.LaneSlot.{LaneSlot}
-use Rattle.hall_slots.specs.declared.list_slot.ListSlot.{ListSlot}
-use Rattle.hall_slots.specs.declared.pool_slot.PoolSlot.{PoolSlot}
-use Rattle.hall_slots.specs.declared.seat_note.SeatNote.{SeatNote}
-use Rattle.hall_slots.specs.declared.key.HallKey.{HallKey}
-use Rattle.hall_slots.specs.Keys.{table_of, quota_of}
-use Rattle.hall_slots.specs.Takes.{HallSeat}
 use Rattle.hall_parts.specs.Writes.{Parts, parts, IsShort, StaySound}
 use Rattle.hall_parts.specs.EventParts.{MayGoOn}
 use Rattle.hall_parts.specs.Puts.{note_of, MayWrite, MayPutLane, MayPutPoolAndLane, MayPutListAndLane, MayPutAll}

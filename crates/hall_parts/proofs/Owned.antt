@@ -8,25 +8,17 @@ use Rattle.std.proofs.lemmas.Option.{none-some, same_Some}
 use mathlib.Core.Option.{some}
 use lib.ListN.{get_elem?}
 use Rattle.dag_order.specs.declared.finish.Finish.{Finish}
-use Rattle.hall_slots.specs.Passed.States.{Setting}
-use Rattle.deque_list.specs.declared.deque_id.DequeId.{DequeId}
+use Rattle.hall_parts.specs.HallNames.{DequeId, ListSlot, SeatNote, Slot, value_of, view_of, end_shown, HallKey, terms_of, Setting, Terms, machine_of, Hall}
+use Rattle.hall_parts.specs.HallNames.{ListShown, finished}
 use Rattle.deque_list.specs.declared.place.Place.{Place}
-use Rattle.hall_slots.specs.Passed.Terms.{Terms, machine_of}
 use Rattle.play_rules.specs.declared.ends.RunEnd.TheVariants.{Finished}
 use Rattle.hall_slots.specs.Passed.Lists.{Among, Each}
 use Rattle.hall_slots.proofs.Passed.DequeMachineLists.{each_among, among_middle}
 use Rattle.hall_slots.specs.Passed.Crew.{SeatStands}
-use Rattle.hall_slots.specs.Passed.Values.{Hall, ListShown, finished}
 use Rattle.hall_slots.specs.Passed.Writing.{place_of}
 use Rattle.hall_slots.proofs.Passed.Lanes.{IsElsewhere, apart}
 use Rattle.hall_slots.specs.Passed.State.{HallLaw}
-use Rattle.hall_slots.specs.declared.list_slot.ListSlot.{ListSlot}
-use Rattle.hall_slots.specs.declared.seat_note.SeatNote.{SeatNote}
-use Rattle.hall_slots.specs.declared.slot.Slot.{Slot}
 use Rattle.hall_slots.specs.declared.slot.Slot.TheVariants as slots
-use Rattle.hall_slots.specs.Shown.{value_of, view_of, end_shown}
-use Rattle.hall_slots.specs.declared.key.HallKey.{HallKey}
-use Rattle.hall_slots.specs.Keys.{terms_of}
 use Rattle.hall_slots.specs.Law.{HallHolds}
 use Rattle.hall_slots.specs.Steps.{hall_shown}
 use Rattle.hall_slots.proofs.Lone.{noted_at}

@@ -4,17 +4,13 @@ use Rattle.std.proofs.Math.Logic.{∥∥₁_map}
 use Rattle.std.proofs.lemmas.List.Sorted.{IsPermutation-refl}
 use Rattle.std.specs.Option.{option_map}
 use Rattle.std.specs.Prelude.{None, false}
-use Rattle.dag_order.specs.declared.action_id.ActionId.{ActionId}
-use Rattle.dag_order.specs.declared.thread_id.ThreadId.{ThreadId}
-use Rattle.deque_list.specs.declared.deque_id.DequeId.{DequeId}
+use Rattle.hall_parts.specs.HallNames.{DequeId, Each, list_shown, lane_shown, pool_shown, running_shown, HallKey, terms_of, ActionId, ThreadId, machine_of}
+use Rattle.hall_parts.specs.HallNames.{Setting, Hall, ListShown, no_lane}
 use Rattle.hall_interleavings.specs.Events.{runs_dummy, gives_up_forced, waits_for_child, PausesOn, given_up}
 use Rattle.hall_slots.specs.Passed.Machine as machine
-use Rattle.hall_slots.specs.Passed.Terms.{machine_of}
 use Rattle.hall_slots.specs.Passed.DepthFirstListActions.{joins}
 use Rattle.hall_slots.specs.Passed.Run.{list_of}
-use Rattle.hall_slots.specs.Passed.States.{Setting}
 use Rattle.hall_slots.specs.Passed.Books.{charge_at}
-use Rattle.hall_slots.specs.Passed.Lists.{Each}
 use Rattle.hall_slots.specs.Passed.ListChangesEvents.{DidDummy}
 use Rattle.moment_laws.specs.Passed.Parts as shown
 use Rattle.moment_laws.specs.Passed.MomentShownEvents.{IsNextOf}
@@ -26,7 +22,6 @@ use Rattle.hall_slots.specs.Passed.Next.{Next}
 use Rattle.hall_slots.specs.Passed.NextVariants as nexts
 use Rattle.hall_slots.specs.Passed.Thread.{Thread}
 use Rattle.hall_slots.specs.Passed.Shown.{thread_shown}
-use Rattle.hall_slots.specs.Passed.Values.{Hall, ListShown, no_lane}
 use Rattle.hall_slots.specs.Passed.Steps.{waited, gave_up}
 use Rattle.hall_slots.specs.Passed.Writing.{lane_with, list_unowned, list_without, written}
 use Rattle.hall_parts.specs.Here.{ShowsOwn}
@@ -34,9 +29,6 @@ use Rattle.hall_parts.specs.Dummies.{DummyHere}
 use Rattle.hall_parts.specs.ListCalls.{SuspendsThere}
 use Rattle.hall_slots.specs.declared.event.Event.TheVariants.{Did, Suspended, GaveUp}
 use Rattle.hall_slots.specs.ListCalls.{ShowsUnowned}
-use Rattle.hall_slots.specs.Shown.{list_shown, lane_shown, pool_shown, running_shown}
-use Rattle.hall_slots.specs.declared.key.HallKey.{HallKey}
-use Rattle.hall_slots.specs.Keys.{terms_of}
 use Rattle.hall_parts.specs.Writes.{Parts, hall_with}
 use Rattle.hall_parts.specs.EventParts.{IsAtAction, IsNext, IsTooMuch}
 use Rattle.hall_parts.specs.Writing.{AtWorkWith, Writes, WritesInAnOrder, DoesEvent}

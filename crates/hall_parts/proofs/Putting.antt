@@ -4,25 +4,16 @@ use Rattle.std.proofs.lemmas.Bool.{ne_eqb}
 use mathlib.Core.Option.{some}
 use lib.ListN.{get_elem?}
 use Rattle.atomic_table.proofs.Lists.{set_else, set_again}
-use Rattle.deque_list.specs.declared.deque_id.DequeId.{DequeId}
+use Rattle.hall_parts.specs.HallNames.{DequeId, LaneSlot, ListSlot, PoolSlot, SeatNote, Slot, HallKey, HallSeat, IsGiven, with_hand, PutMay}
 use Rattle.turn_table.specs.Hands.{Shows, showing, without_slot, renewed, shown_by, gave}
-use Rattle.turn_table.specs.Seats.{with_hand}
-use Rattle.turn_table.specs.Notes.{PutMay}
 use Rattle.turn_table.specs.Law.{PutKeeps}
 use Rattle.turn_table.proofs.NoteLaws.{put_writes}
 use Rattle.turn_table.proofs.Left.{left_of_one, first_of_two, first_of_three}
 use Rattle.turn_table.specs.Backs.{still, unchanged}
 use Rattle.turn_table.proofs.Resting.{put_rests}
 use Rattle.hall_slots.specs.Passed.Writing.{lane_slot}
-use Rattle.hall_slots.specs.declared.lane_slot.LaneSlot.{LaneSlot}
-use Rattle.hall_slots.specs.declared.list_slot.ListSlot.{ListSlot}
-use Rattle.hall_slots.specs.declared.pool_slot.PoolSlot.{PoolSlot}
-use Rattle.hall_slots.specs.declared.seat_note.SeatNote.{SeatNote}
-use Rattle.hall_slots.specs.declared.slot.Slot.{Slot}
 use Rattle.hall_slots.specs.declared.slot.Slot.TheVariants as slots
-use Rattle.hall_slots.specs.declared.key.HallKey.{HallKey}
 use Rattle.hall_slots.specs.Law.{HallHolds, places_of, joined_note}
-use Rattle.hall_slots.specs.Takes.{HallSeat, IsGiven}
 use Rattle.hall_slots.proofs.Keeping.{Whole}
 use Rattle.hall_parts.specs.Writes.{parts, slots_with}
 use Rattle.hall_parts.proofs.Holding.{written_halls_hold}

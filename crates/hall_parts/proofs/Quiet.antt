@@ -3,14 +3,10 @@ use Rattle.std.proofs.Common.{◌≡◌, ℕ, zero, suc, List, [], ◌∷◌, re
 use Rattle.std.specs.Option.{option_map}
 use Rattle.std.specs.Prelude.{Some, slice_set, slice_index_or}
 use Rattle.atomic_table.proofs.Lists.{set_again}
-use Rattle.deque_list.specs.declared.deque_id.DequeId.{DequeId}
-use Rattle.hall_slots.specs.Passed.Terms.{Terms, machine_of}
+use Rattle.hall_parts.specs.HallNames.{DequeId, lane_shown, stop_shown, view_of, terms_of, Terms, machine_of, Hall, LaneShown, no_lane, no_memory, lane_at}
 use Rattle.hall_slots.specs.Passed.HallMachineViews.{View}
 use Rattle.hall_slots.proofs.Passed.Halting.{finding_keeps_crew}
-use Rattle.hall_slots.specs.Passed.Values.{Hall, LaneShown, no_lane, no_memory, lane_at}
 use Rattle.hall_slots.specs.Passed.State.{RunningState}
-use Rattle.hall_slots.specs.Shown.{lane_shown, stop_shown, view_of}
-use Rattle.hall_slots.specs.Keys.{terms_of}
 use Rattle.hall_slots.proofs.Reading.{at_of_get}
 use Rattle.hall_parts.specs.Quiet.{StatementsMayCome, WantsOfMemoryMayCome}
 

@@ -6,9 +6,7 @@ use Rattle.deque_list.specs.Orders.{OrderView}
 use Rattle.moment_laws.specs.Passed.Parts as parts
 use Rattle.hall_slots.specs.Passed.Periods.{closed_shown}
 use Rattle.hall_slots.specs.Passed.ThreadFramesKept.{waiting_shown, result_kept}
-use Rattle.hall_slots.specs.Shown.{list_shown, pool_shown, end_shown}
-use Rattle.hall_slots.specs.declared.list_slot.ListSlot.{ListSlot}
-use Rattle.hall_slots.specs.declared.pool_slot.PoolSlot.{PoolSlot}
+use Rattle.hall_parts.specs.HallNames.{list_shown, pool_shown, end_shown, ListSlot, PoolSlot}
 use Rattle.hall_parts.specs.Rooms.{KeepsDeques, IsSamePool}
 
 pub pool_same : (was now : PoolSlot) → IsSamePool was now → pool_shown now ≡ pool_shown was

@@ -9,7 +9,9 @@ use lib.ListN.{get_elem?}
 use lib.Seq.{map-set}
 use Rattle.dag_order.specs.Births.{root}
 use Rattle.dag_order.specs.declared.finish.Finish.{Finish}
-use Rattle.deque_list.specs.declared.deque_id.DequeId.{DequeId}
+use Rattle.hall_parts.specs.HallNames.{DequeId, LaneSlot, SeatNote, Slot, view_of, end_shown, stop_shown, HallKey, table_of, quota_of, HallSeat, kept_under}
+use Rattle.hall_parts.specs.HallNames.{Stop as HallStop, by_rule, no_memory, threads_in, threads_of, IsLaneOf, PoolIsSound, ListIsSound, ThreadsAreAtPoints}
+use Rattle.hall_parts.specs.HallNames.{LanesAreInUse, EndIsSound, PartsAreSound}
 use Rattle.deque_list.specs.declared.place.Place.{Place}
 use Rattle.deque_list.specs.Ids.{deque_id}
 use Rattle.hall_slots.specs.Passed.Roots.{end_of_root}
@@ -20,24 +22,14 @@ use Rattle.play_rules.specs.declared.stop.Stop.TheVariants.{ArenaFull, DequesFul
 use Rattle.hall_slots.specs.Passed.Lists.{Among, Each}
 use Rattle.hall_slots.proofs.Passed.DequeMachineLists.{each_from, each_among, each_at, among_middle, among_wider}
 use Rattle.hall_slots.proofs.Passed.OpenPeriodsLists.{set_same, set_other}
-use Rattle.thread_map.specs.Kept.{kept_under}
 use Rattle.hall_slots.specs.Passed.ThreadFramesPoints.{IsAtPoint}
 use Rattle.hall_slots.specs.Passed.Thread.{Thread}
 use Rattle.hall_slots.specs.Passed.HallMachineViews.{View}
-use Rattle.hall_slots.specs.Passed.Values.{Stop as HallStop, by_rule, no_memory}
 use Rattle.hall_slots.specs.Passed.Writing.{lane_slot, place_of}
 use Rattle.hall_slots.specs.Passed.HallMachinePoints.{IsExcused, LaneAtPoints, AreAtPoints}
 use Rattle.hall_slots.proofs.Passed.Points.{excuses_stay}
-use Rattle.hall_slots.specs.declared.lane_slot.LaneSlot.{LaneSlot}
-use Rattle.hall_slots.specs.declared.seat_note.SeatNote.{SeatNote}
-use Rattle.hall_slots.specs.declared.slot.Slot.{Slot}
 use Rattle.hall_slots.specs.declared.slot.Slot.TheVariants as slots
-use Rattle.hall_slots.specs.Shown.{view_of, end_shown, stop_shown}
-use Rattle.hall_slots.specs.declared.key.HallKey.{HallKey}
-use Rattle.hall_slots.specs.Keys.{table_of, quota_of}
 use Rattle.hall_slots.specs.Law.{HallHolds}
-use Rattle.hall_slots.specs.Sound.{threads_in, threads_of, IsLaneOf, PoolIsSound, ListIsSound, ThreadsAreAtPoints, LanesAreInUse, EndIsSound, PartsAreSound}
-use Rattle.hall_slots.specs.Takes.{HallSeat}
 use Rattle.hall_slots.proofs.Lone.{noted_at}
 use Rattle.hall_slots.proofs.Reading.{at_of_get, get_of_at, IfList, IfPool, IfLane}
 use Rattle.hall_parts.specs.Writes.{Parts, slots_with, AreIn, IsOwner, IsShort, BecomesOf, stays, loses_owner, goes, StaySound}

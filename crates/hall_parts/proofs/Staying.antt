@@ -4,19 +4,15 @@ use Rattle.std.proofs.lemmas.List.Sorted.{IsPermutation-sym, IsPermutation-map}
 use Rattle.std.proofs.lemmas.Option.{none-some}
 use Rattle.std.specs.List.Sorted.{IsPermutation}
 use Rattle.dag_order.specs.Births.{root}
-use Rattle.hall_slots.specs.Passed.Lists.{Each}
+use Rattle.hall_parts.specs.HallNames.{Each, table_of, quota_of, Kept, ListShown, thread_that_waits}
 use Rattle.hall_slots.proofs.Passed.DequeMachineLists.{each_from, each_among}
 use Rattle.moment_laws.proofs.Reordered.{among_moved}
 use Rattle.hall_slots.specs.Passed.ThreadFramesPoints.{IsAtPoint, IsResult}
 use Rattle.hall_slots.specs.Passed.Ended.{Ended}
 use Rattle.hall_slots.specs.Passed.Thread.{Thread}
-use Rattle.thread_map.specs.Kept.{Kept}
 use Rattle.hall_slots.specs.Passed.ThreadFramesKept.{WaitsUnder, IsUnderItsId}
 use Rattle.hall_slots.specs.Passed.Roots.{end_of_root}
-use Rattle.hall_slots.specs.Passed.Values.{ListShown}
 use Rattle.hall_slots.specs.Passed.HallMachinePoints.{LaneAtPoints}
-use Rattle.hall_slots.specs.Keys.{table_of, quota_of}
-use Rattle.hall_slots.specs.Sound.{thread_that_waits}
 use Rattle.hall_parts.specs.Writes.{IsShort, stays, loses_owner, goes}
 use Rattle.hall_parts.specs.Staying.{LanesStaySound, GivenUpStaysSound, SuspendedStaysSound, LeftStaysSound, RootStaysSound, WokenStaysSound, HandedStaysSound}
 

@@ -1,15 +1,10 @@
 -- What each event has in common.
 use Rattle.std.proofs.Common.{◌≢◌, List, [], ◌∷◌, map, refl, sym, ◌∙◌}
 use Rattle.std.specs.Prelude.{Option}
-use Rattle.dag_order.specs.declared.thread_id.ThreadId.{ThreadId}
-use Rattle.deque_list.specs.declared.deque_id.DequeId.{DequeId}
-use Rattle.hall_slots.specs.Passed.Lists.{Each}
+use Rattle.hall_parts.specs.HallNames.{DequeId, Each, Event, SeatNote, HallSeat, ThreadId}
 use Rattle.moment_laws.specs.Passed.Parts as shown
 use Rattle.hall_slots.specs.Passed.Ended.{Ended}
 use Rattle.hall_slots.specs.Passed.ThreadFramesKept.{IsUnderItsId, result_kept}
-use Rattle.hall_slots.specs.declared.event.Event.{Event}
-use Rattle.hall_slots.specs.declared.seat_note.SeatNote.{SeatNote}
-use Rattle.hall_slots.specs.Takes.{HallSeat}
 use Rattle.hall_parts.specs.Writes.{told_note, IsOwner}
 use Rattle.hall_parts.specs.EventParts.{MayGoOn}
 use Rattle.hall_parts.specs.Staying.{NotesOn}

@@ -3,7 +3,8 @@ use Rattle.std.proofs.Common.{◌≡◌, ℕ, ◌+◌, ◌-◌, ◌≤◌, ◌<�
 use Rattle.std.proofs.lemmas.Bool.{lt-ltb}
 use Rattle.std.proofs.lemmas.Int.{ints}
 use Rattle.std.specs.Prelude.{Bool, true, nat_lt, Some, ℤ, pos, neg_ℤ, ◌+ℤ◌, ◌-ℤ◌, IsTrue}
-use Rattle.dag_order.specs.declared.action_id.ActionId.{ActionId}
+use Rattle.hall_parts.specs.HallNames.{ActionId, TellsWords, TellsJoin, deed_of, is_there, label_of, children_of, newest, result_of, released_by}
+use Rattle.hall_parts.specs.HallNames.{join_words_of, Next, Thread}
 use Rattle.hall_slots.specs.Passed.DepthFirstListActions.{weight_of}
 use Rattle.hall_slots.specs.Passed.Facts.{action_at, deed_at, words_at, weight_at}
 use Rattle.hall_slots.specs.Passed.Run.{list_of}
@@ -12,10 +13,6 @@ use Rattle.space_ledger.specs.declared.moves.Moves.{Moves}
 use Rattle.space_ledger.specs.declared.moved.Moved.{Moved}
 use Rattle.space_ledger.specs.MovesList.{moves_list}
 use Rattle.moment_laws.specs.Moves.{noted_if}
-use Rattle.thread_frames.specs.Actions.{TellsWords, TellsJoin, deed_of, is_there}
-use Rattle.thread_frames.specs.Views.{label_of, children_of, newest, result_of, released_by, join_words_of}
-use Rattle.thread_frames.specs.declared.next.Next.{Next}
-use Rattle.thread_frames.specs.declared.thread.Thread.{Thread}
 use Rattle.thread_actions.proofs.Acting.{newest_there}
 use Rattle.hall_parts.specs.Here.{TakesWords, pool_with}
 

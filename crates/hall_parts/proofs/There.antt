@@ -2,9 +2,7 @@
 use Rattle.std.proofs.Common.{◌≡◌, suc-ne-zero, ℕ, suc, ◌+◌, ◌≤◌, List, [], ◌∷◌, length, refl, sym, arith}
 use mathlib.Core.Option.{some}
 use lib.ListN.{get_elem?}
-use Rattle.hall_slots.specs.declared.list_slot.ListSlot.{ListSlot}
-use Rattle.hall_slots.specs.declared.pool_slot.PoolSlot.{PoolSlot}
-use Rattle.hall_slots.specs.declared.slot.Slot.{Slot}
+use Rattle.hall_parts.specs.HallNames.{ListSlot, PoolSlot, Slot}
 use Rattle.hall_slots.specs.declared.slot.Slot.TheVariants as slots
 use Rattle.hall_slots.specs.Law.{IsShaped}
 

@@ -2,7 +2,6 @@
 use Rattle.std.proofs.Common.{◌≡◌, ℕ, List, [], ◌++◌, length, refl, sym, ap, ◌∙◌, arith, append-nil, ℤ, pos, ◌+ℤ◌}
 use Rattle.std.proofs.lemmas.Int.{ints}
 use Rattle.std.specs.Prelude.{false, nat_lt, neg_ℤ}
-use Rattle.dag_order.specs.declared.action_id.ActionId.{ActionId}
 use Rattle.hall_slots.specs.Passed.DequeMachineRuns.{is_move, moves_words}
 use Rattle.hall_slots.specs.Passed.DepthFirstListActions.{Action, weight_of}
 use Rattle.hall_slots.specs.Passed.Facts.{action_at, words_at, weight_at}
@@ -14,11 +13,9 @@ use Rattle.hall_slots.specs.Passed.ThreadFramesViews.{label_of}
 use Rattle.hall_slots.specs.Passed.NextVariants as nexts
 use Rattle.hall_slots.specs.Passed.Thread.{Thread}
 use Rattle.thread_points.specs.Points.{words_at_end}
-use Rattle.hall_slots.specs.Passed.Values.{PoolShown}
 use Rattle.hall_slots.specs.Passed.Writing.{PoolTakes}
 use Rattle.hall_parts.specs.Here.{TakesWords}
-use Rattle.hall_slots.specs.declared.pool_slot.PoolSlot.{PoolSlot}
-use Rattle.hall_slots.specs.Shown.{pool_shown}
+use Rattle.hall_parts.specs.HallNames.{PoolSlot, pool_shown, ActionId, PoolShown}
 use Rattle.hall_parts.specs.Quiet.{NothingIsTaken}
 
 unweighed : (x y : ℤ) → y ≡ pos 0 → x ≡ x +ℤ y

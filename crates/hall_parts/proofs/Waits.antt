@@ -3,14 +3,10 @@ use Rattle.std.proofs.Common.{◌≡◌, ◌≢◌, List, [], ◌∷◌, map, sy
 use Rattle.std.proofs.lemmas.List.Sorted.{IsPermutation-map}
 use Rattle.std.specs.List.Sorted.{IsPermutation}
 use Rattle.std.specs.Prelude.{Option, None, Some, IfSome}
-use Rattle.dag_order.specs.declared.thread_id.ThreadId.{ThreadId}
-use Rattle.hall_slots.specs.Passed.Lists.{Each}
+use Rattle.hall_parts.specs.HallNames.{Each, ListSlot, list_shown, ThreadId, Thread}
 use Rattle.moment_laws.specs.Passed.Parts.{Child}
-use Rattle.thread_frames.specs.declared.thread.Thread.{Thread}
 use Rattle.thread_frames.specs.Kept.{WaitsUnder, waiting_shown}
 use Rattle.thread_frames.proofs.Found.{none_found}
-use Rattle.hall_slots.specs.declared.list_slot.ListSlot.{ListSlot}
-use Rattle.hall_slots.specs.Shown.{list_shown}
 use Rattle.hall_parts.specs.ListCalls.{TakesWaiting}
 use Rattle.hall_parts.specs.TakenOut.{NobodyWaits}
 

@@ -3,15 +3,14 @@ use Rattle.std.proofs.Common.{◌≡◌, ℕ, ◌<◌, ◌≤◌, List, [], ◌�
 use Rattle.std.proofs.lemmas.Option.{same_Some}
 use Rattle.std.specs.Prelude.{Option, Some, slice_get, slice_set}
 use mathlib.Core.List.{map-append}
-use Rattle.dag_order.specs.declared.action_id.ActionId.{ActionId}
 use Rattle.dag_order.specs.declared.birth.Birth.{Birth}
-use Rattle.deque_list.specs.declared.deque_id.DequeId.{DequeId}
+use Rattle.hall_parts.specs.HallNames.{DequeId, Event, LaneSlot, SeatNote, list_shown, lane_shown, pool_shown, told_shown, view_of, HallKey, table_of}
+use Rattle.hall_parts.specs.HallNames.{quota_of, terms_of, HallSeat, ActionId, Terms, machine_of, Setting, Hall, ListShown, LaneShown, PoolShown, lane_at}
+use Rattle.hall_parts.specs.HallNames.{open_for}
 use Rattle.hall_slots.specs.Passed.Machine as machine
 use Rattle.hall_slots.specs.Passed.Moments.{Moment}
 use Rattle.hall_slots.specs.Passed.Play.{Limits}
-use Rattle.hall_slots.specs.Passed.Terms.{Terms, machine_of}
 use Rattle.hall_slots.specs.Passed.DepthFirstListActions.{record_words}
-use Rattle.hall_slots.specs.Passed.States.{Setting}
 use Rattle.hall_slots.specs.Passed.Lists.{Among}
 use Rattle.moment_laws.specs.Passed.Parts as parts
 use Rattle.hall_slots.specs.Passed.Periods.{Period, open_shown}
@@ -24,20 +23,12 @@ use Rattle.thread_state.specs.Settings.{IsSettingOf}
 use Rattle.hall_slots.specs.Passed.Changes.{after_event}
 use Rattle.hall_slots.specs.Passed.Crew.{SeatStands}
 use Rattle.hall_slots.specs.Passed.HallMachineViews.{View}
-use Rattle.hall_slots.specs.Passed.Values.{Hall, ListShown, LaneShown, PoolShown, lane_at, open_for}
 use Rattle.hall_slots.specs.Passed.Steps.{Step, Leads}
 use Rattle.hall_slots.specs.Passed.Writing.{IsAtWork, place_of, lane_with, written}
 use Rattle.hall_slots.proofs.Passed.Closing.{owners_are_at_work}
 use Rattle.hall_slots.specs.Passed.State.{RunningState, IsIn, GoesOn}
 use Rattle.hall_parts.specs.Here.{ShowsOwn}
-use Rattle.hall_slots.specs.declared.event.Event.{Event}
-use Rattle.hall_slots.specs.declared.lane_slot.LaneSlot.{LaneSlot}
-use Rattle.hall_slots.specs.declared.seat_note.SeatNote.{SeatNote}
-use Rattle.hall_slots.specs.Shown.{list_shown, lane_shown, pool_shown, told_shown, view_of}
-use Rattle.hall_slots.specs.declared.key.HallKey.{HallKey}
-use Rattle.hall_slots.specs.Keys.{table_of, quota_of, terms_of}
 use Rattle.hall_slots.specs.Steps.{IsRunning}
-use Rattle.hall_slots.specs.Takes.{HallSeat}
 use Rattle.hall_parts.specs.Writes.{Parts, hall_with, told_note}
 use Rattle.hall_parts.proofs.Owned.{split}
 use Rattle.hall_parts.specs.EventParts.{IsAtAction, MayGoOn}

@@ -1,16 +1,13 @@
 -- What an action did in its lane is what the law of the hall asks for.
 use Rattle.std.proofs.Common.{◌≡◌, ℕ, List, [], ◌∷◌, map, sym, ap, subst, ◌∙◌}
-use Rattle.dag_order.specs.declared.action_id.ActionId.{ActionId}
+use Rattle.hall_parts.specs.HallNames.{ActionId, Thread, thread_shown, Hall, open_for}
 use Rattle.dag_order.specs.declared.birth.Birth.{Birth}
 use Rattle.hall_slots.specs.Passed.DepthFirstListActions.{Action}
 use Rattle.open_periods.specs.Periods.{open_shown}
 use Rattle.open_periods.specs.Tables.{noted}
 use Rattle.open_periods.specs.declared.period.Period.{Period as OpenPeriod}
 use Rattle.moment_laws.specs.Passed.Parts as parts
-use Rattle.thread_frames.specs.declared.thread.Thread.{Thread}
-use Rattle.thread_frames.specs.Shown.{thread_shown}
 use Rattle.hall_slots.specs.Passed.ListChangesEvents.{DidAlone, DidFork}
-use Rattle.hall_slots.specs.Passed.Values.{Hall, open_for}
 use Rattle.hall_slots.specs.Passed.Writing.{IsAtWork, ActsInLane, acts_alone, forks_child}
 use Rattle.hall_parts.specs.Here.{ShowsOwn}
 

@@ -1,19 +1,13 @@
 -- What the End of a thread does to the parts that its worker took.
 use Rattle.std.specs.Prelude.{◌≡◌, ℕ, List, ◌∷◌, []}
-use Rattle.dag_order.specs.declared.action_id.ActionId.{ActionId}
+use Rattle.hall_parts.specs.HallNames.{ActionId, Setting, IsOfTheList, IsAtPoint, IsResult, label_of, ended_label, Ended, Thread, thread_shown}
+use Rattle.hall_parts.specs.HallNames.{result_shown}
 use Rattle.hall_slots.specs.Passed.Run.{list_of}
-use Rattle.hall_slots.specs.Passed.States.{Setting}
 use Rattle.hall_slots.specs.Passed.Table.{Table}
 use Rattle.open_periods.specs.Periods.{open_shown}
 use Rattle.open_periods.specs.Tables.{noted}
 use Rattle.open_periods.specs.declared.period.Period.{Period as OpenPeriod}
-use Rattle.thread_frames.specs.Actions.{IsOfTheList}
-use Rattle.thread_frames.specs.Points.{IsAtPoint, IsResult}
-use Rattle.thread_frames.specs.Views.{label_of, ended_label}
-use Rattle.thread_frames.specs.declared.ended.Ended.{Ended}
 use Rattle.thread_frames.specs.declared.next.Next.TheVariants as nexts
-use Rattle.thread_frames.specs.declared.thread.Thread.{Thread}
-use Rattle.thread_frames.specs.Shown.{thread_shown, result_shown}
 use Rattle.hall_slots.specs.Passed.ListChangesEvents.{DidEnd}
 use Rattle.thread_actions.specs.Results.{IsGiven}
 use Rattle.hall_slots.specs.Passed.Writing.{IsHanded}

@@ -1,14 +1,12 @@
 -- What an owner's call has in its hands when it comes to its event.
 use Rattle.std.specs.Prelude.{◌≡◌, ◌≢◌, ℕ, ◌+◌, ◌<◌, true, false, Some, List, ◌∷◌}
 use Rattle.std.specs.Option.{option_map}
-use Rattle.dag_order.specs.declared.thread_id.ThreadId.{ThreadId}
-use Rattle.deque_list.specs.declared.deque_id.DequeId.{DequeId}
+use Rattle.hall_parts.specs.HallNames.{DequeId, Each, LaneSlot, ListSlot, HallKey, table_of, quota_of, list_shown, running_shown, HallSeat, ThreadId}
+use Rattle.hall_parts.specs.HallNames.{Setting, ListShown}
 use Rattle.hall_slots.specs.Passed.Books.{charge_at}
-use Rattle.hall_slots.specs.Passed.Lists.{Each}
 use Rattle.moment_laws.specs.Passed.Parts as shown
 use Rattle.hall_slots.specs.Passed.Facts.{words_at}
 use Rattle.hall_slots.specs.Passed.Run.{list_of}
-use Rattle.hall_slots.specs.Passed.States.{Setting}
 use Rattle.hall_slots.specs.Passed.Periods.{open_shown}
 use Rattle.hall_slots.specs.Passed.Period.{Period as OpenPeriod}
 use Rattle.thread_actions.specs.Acts.{IsCharged}
@@ -16,13 +14,6 @@ use Rattle.hall_slots.specs.Passed.ThreadFramesActions.{IsOfTheList, IsStill}
 use Rattle.hall_slots.specs.Passed.Next.{Next}
 use Rattle.hall_slots.specs.Passed.Thread.{Thread}
 use Rattle.thread_state.specs.Settings.{IsSettingOf}
-use Rattle.hall_slots.specs.Passed.Values.{ListShown}
-use Rattle.hall_slots.specs.declared.lane_slot.LaneSlot.{LaneSlot}
-use Rattle.hall_slots.specs.declared.list_slot.ListSlot.{ListSlot}
-use Rattle.hall_slots.specs.declared.key.HallKey.{HallKey}
-use Rattle.hall_slots.specs.Keys.{table_of, quota_of}
-use Rattle.hall_slots.specs.Shown.{list_shown, running_shown}
-use Rattle.hall_slots.specs.Takes.{HallSeat}
 
 -- The lane that was taken has these threads under its top one, which has come to its next action without doing any, and shows this period,
 -- whichever worker it is noted for. The period may have more room than it had in the lane.

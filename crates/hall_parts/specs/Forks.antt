@@ -1,10 +1,9 @@
 -- What a Fork does to the parts that its worker took.
 use Rattle.std.specs.Prelude.{◌≡◌, ℕ, List, ◌∷◌, []}
-use Rattle.dag_order.specs.declared.action_id.ActionId.{ActionId}
+use Rattle.hall_parts.specs.HallNames.{ActionId, Thread}
 use Rattle.hall_slots.specs.Passed.DepthFirstListActions.{record_words}
 use Rattle.open_periods.specs.declared.period.Period.{Period as OpenPeriod}
 use Rattle.thread_frames.specs.declared.next.Next.TheVariants as nexts
-use Rattle.thread_frames.specs.declared.thread.Thread.{Thread}
 use Rattle.thread_actions.specs.Acts.{ForkFits, StaysAtPoint}
 use Rattle.hall_parts.specs.Here.{ActsHere}
 

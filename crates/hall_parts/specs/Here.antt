@@ -1,25 +1,22 @@
 -- What an owner's event does to what its worker took: the lane of its deque, with the top thread taken out of it, the period that runs there,
 -- and the pool with its moves.
-use Rattle.std.specs.Prelude.{◌≡◌, ℕ, ◌≤◌, List, ◌∷◌, map, pos}
+use Rattle.std.specs.Prelude.{◌≡◌, ℕ, ◌+◌, ◌≤◌, ◌<◌, List, [], ◌∷◌, map, pos}
+use Rattle.block_arena.specs.Region.{Region}
 use Rattle.containers.specs.BoundedList.{entries, spare}
-use Rattle.dag_order.specs.declared.action_id.ActionId.{ActionId}
+use Rattle.containers.specs.declared.bounded_list.BoundedList.{BoundedList}
+use Rattle.hall_parts.specs.HallNames.{ActionId, Setting, PoolSlot, IsOfTheList, IsPlaced, done_of, Next, Thread, thread_shown, Hall, PoolShown, open_for}
 use Rattle.dag_order.specs.declared.birth.Birth.{Birth}
 use Rattle.deque_list.specs.Lanes.{LaneView}
 use Rattle.hall_slots.specs.Passed.Facts.{words_at}
 use Rattle.hall_slots.specs.Passed.Run.{list_of}
-use Rattle.hall_slots.specs.Passed.States.{Setting}
+use Rattle.language_limits.specs.declared.TheConstants.{GREATEST_COUNT, GREATEST_QUOTA}
 use Rattle.open_periods.specs.Periods.{Period, open_shown}
 use Rattle.open_periods.specs.Tables.{birth_room, noted}
 use Rattle.open_periods.specs.declared.period.Period.{Period as OpenPeriod}
 use Rattle.space_ledger.specs.declared.moves.Moves.{Moves}
 use Rattle.space_ledger.specs.MovesList.{moves_list, moves_spare}
 use Rattle.space_ledger.specs.Sums.{total_change}
-use Rattle.thread_frames.specs.Actions.{IsOfTheList}
-use Rattle.thread_frames.specs.declared.next.Next.{Next}
-use Rattle.thread_frames.specs.declared.thread.Thread.{Thread}
-use Rattle.thread_frames.specs.Shown.{thread_shown}
 use Rattle.thread_actions.specs.Acts.{StaysAtPoint}
-use Rattle.hall_slots.specs.Passed.Values.{Hall, PoolShown, open_for}
 use Rattle.hall_slots.specs.Passed.Writing.{IsAtWork, ActsInLane, PoolTakes}
 
 -- There is memory for an action and a birth in the period, where a list for so many births is ready for the first one.
@@ -36,6 +33,28 @@ pub record HasRoomHere (threads : ℕ) (under : LaneView Thread) (running : Open
 pub record HasMovesFor (live : ℕ) (moves : Moves) : Type 0 where
   pub room : 1 ≤ moves_spare moves
   pub sum : total_change (moves_list moves) ≡ pos live
+
+-- The thread is at its point, and there is memory for an action, for so many threads more in the lane, and for so many words more of the quota. The
+-- list of births is ready for the first one.
+pub record MayDo (threads words : ℕ) (top : Thread) (under : LaneView Thread) (running : OpenPeriod) (first : BoundedList Birth) : Type 0 where
+  pub placed : IsPlaced top
+  pub count : done_of top < GREATEST_COUNT
+  pub room : HasRoomHere threads under running (spare first)
+  pub none : entries first ≡ []
+  pub fits : running.used + words ≤ GREATEST_QUOTA
+
+-- or for its End, for which the lane needs no room
+pub record MayEnd (top : Thread) (running : OpenPeriod) (first : BoundedList Birth) : Type 0 where
+  pub placed : IsPlaced top
+  pub count : done_of top < GREATEST_COUNT
+  pub room : HasRoomIn running (spare first)
+  pub none : entries first ≡ []
+  pub fits : running.used ≤ GREATEST_QUOTA
+
+-- The pool has these words, and its moves are those of the words in use.
+pub record PoolBecomes (now : PoolSlot) (words : Region) : Type 0 where
+  pub pool : now.pool ≡ words
+  pub sum : total_change (moves_list now.moves) ≡ pos now.pool.live
 
 -- the pool as a slot shows it: the words in use, and the moves
 abbrev pub pool_with : ℕ → Moves → PoolShown

@@ -1,16 +1,12 @@
 -- What a Join does to the parts that its worker took.
 use Rattle.std.specs.Prelude.{◌≡◌, ℕ, List, ◌∷◌, []}
-use Rattle.dag_order.specs.declared.action_id.ActionId.{ActionId}
-use Rattle.dag_order.specs.declared.thread_id.ThreadId.{ThreadId}
+use Rattle.hall_parts.specs.HallNames.{ActionId, ThreadId, Setting, IsOfTheList, Thread}
 use Rattle.hall_slots.specs.Passed.Facts.{words_at}
 use Rattle.hall_slots.specs.Passed.Run.{list_of}
-use Rattle.hall_slots.specs.Passed.States.{Setting}
 use Rattle.open_periods.specs.Periods.{open_shown}
 use Rattle.open_periods.specs.Tables.{noted}
 use Rattle.open_periods.specs.declared.period.Period.{Period as OpenPeriod}
-use Rattle.thread_frames.specs.Actions.{IsOfTheList}
 use Rattle.thread_frames.specs.declared.next.Next.TheVariants as nexts
-use Rattle.thread_frames.specs.declared.thread.Thread.{Thread}
 use Rattle.thread_actions.specs.Acts.{ActedJoin, StaysAtPoint}
 
 -- the thread joined its newest open child under this name, and is on top of the others at its next point; the period has the name

@@ -1,14 +1,9 @@
 -- What a seat writes that leaves, that is answered an end, or that keeps its stop.
 use Rattle.std.specs.Prelude.{◌≡◌, ◌≢◌, ◌⊎◌, ℕ, ◌≤◌, ◌<◌, false, Option, None, Some}
-use Rattle.deque_list.specs.declared.deque_id.DequeId.{DequeId}
+use Rattle.hall_parts.specs.HallNames.{DequeId, HallKey, ListSlot, SeatNote, quota_of, HallSeat}
 use Rattle.hall_slots.specs.Leaving.{end_left}
 use Rattle.hall_slots.specs.ListCalls.{end_kept, IsOutOf}
 use Rattle.hall_slots.specs.Passed.DepthFirstListActions.{record_words}
-use Rattle.hall_slots.specs.declared.key.HallKey.{HallKey}
-use Rattle.hall_slots.specs.declared.list_slot.ListSlot.{ListSlot}
-use Rattle.hall_slots.specs.declared.seat_note.SeatNote.{SeatNote}
-use Rattle.hall_slots.specs.Keys.{quota_of}
-use Rattle.hall_slots.specs.Takes.{HallSeat}
 use Rattle.play_rules.specs.declared.ends.RunEnd.{RunEnd}
 use Rattle.play_rules.specs.declared.stop.Stop.{Stop}
 use Rattle.play_rules.specs.declared.stop.Stop.TheVariants.{OutOfMemory}

@@ -16,3 +16,4 @@ pub mod Own
 pub mod Writing
 pub mod Leaving
 pub mod Passed
+pub mod HallNames

@@ -1,19 +1,12 @@
 -- What the calls on the list do to what it shows.
 use Rattle.std.specs.Prelude.{◌≡◌, ℕ, Some, List, ◌∷◌}
 use Rattle.std.specs.List.Sorted.{IsPermutation}
-use Rattle.dag_order.specs.declared.thread_id.ThreadId.{ThreadId}
-use Rattle.deque_list.specs.declared.deque_id.DequeId.{DequeId}
+use Rattle.hall_parts.specs.HallNames.{DequeId, ListSlot, Running, list_shown, running_shown, ThreadId, Ended, Thread, thread_shown, result_shown, Hall}
+use Rattle.hall_parts.specs.HallNames.{ListShown}
 use Rattle.moment_laws.specs.Passed.Parts as parts
 use Rattle.open_periods.specs.Tables.{shut}
 use Rattle.hall_slots.specs.Passed.ThreadMapKept.{kept_under}
-use Rattle.thread_frames.specs.declared.ended.Ended.{Ended}
-use Rattle.thread_frames.specs.declared.thread.Thread.{Thread}
-use Rattle.thread_frames.specs.Shown.{thread_shown, result_shown}
-use Rattle.hall_slots.specs.Passed.Values.{Hall, ListShown}
 use Rattle.hall_slots.specs.Passed.Writing.{IsAtWork, IsHanded, list_without}
-use Rattle.hall_slots.specs.declared.list_slot.ListSlot.{ListSlot}
-use Rattle.hall_slots.specs.declared.lane_slot.Running.{Running}
-use Rattle.hall_slots.specs.Shown.{list_shown, running_shown}
 
 -- the list shows that the thread on top waits, and that its deque, of a worker at work, is gone
 abbrev pub SuspendsThere : (before after : ListSlot) → DequeId → Running → Thread → Type 0

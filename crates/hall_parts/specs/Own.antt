@@ -1,14 +1,8 @@
 -- Lanes in which nothing is decided.
 use Rattle.std.specs.Prelude.{◌≡◌, ◌<◌, None, Some, List, ◌∷◌}
-use Rattle.deque_list.specs.declared.deque_id.DequeId.{DequeId}
+use Rattle.hall_parts.specs.HallNames.{DequeId, Each, LaneSlot, HallKey, lane_shown, table_of, quota_of, HallSeat}
 use Rattle.hall_slots.specs.Passed.Thread.{Thread}
 use Rattle.hall_slots.specs.Passed.ThreadFramesPoints.{IsAtPoint}
-use Rattle.hall_slots.specs.Passed.Lists.{Each}
-use Rattle.hall_slots.specs.declared.lane_slot.LaneSlot.{LaneSlot}
-use Rattle.hall_slots.specs.declared.key.HallKey.{HallKey}
-use Rattle.hall_slots.specs.Shown.{lane_shown}
-use Rattle.hall_slots.specs.Keys.{table_of, quota_of}
-use Rattle.hall_slots.specs.Takes.{HallSeat}
 use Rattle.hall_parts.specs.EventParts.{MayPause}
 use Rattle.hall_parts.specs.Staying.{AllAtPoints}
 use Rattle.hall_parts.specs.Taken.{its_lane}

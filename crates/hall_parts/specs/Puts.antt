@@ -1,16 +1,8 @@
 -- What a seat is that puts back what an event wrote.
 use Rattle.std.specs.Prelude.{◌≡◌, ℕ, ◌+◌, ◌<◌, true, None, Some, List, [], ◌∷◌}
-use Rattle.deque_list.specs.declared.deque_id.DequeId.{DequeId}
-use Rattle.turn_table.specs.Seats.{with_hand}
+use Rattle.hall_parts.specs.HallNames.{DequeId, LaneSlot, ListSlot, PoolSlot, SeatNote, Slot, HallKey, HallSeat, with_hand}
 use Rattle.hall_slots.specs.declared.event.Event.TheVariants.{GaveUp}
-use Rattle.hall_slots.specs.declared.lane_slot.LaneSlot.{LaneSlot}
-use Rattle.hall_slots.specs.declared.list_slot.ListSlot.{ListSlot}
-use Rattle.hall_slots.specs.declared.pool_slot.PoolSlot.{PoolSlot}
-use Rattle.hall_slots.specs.declared.seat_note.SeatNote.{SeatNote}
-use Rattle.hall_slots.specs.declared.slot.Slot.{Slot}
 use Rattle.hall_slots.specs.declared.slot.Slot.TheVariants as slots
-use Rattle.hall_slots.specs.declared.key.HallKey.{HallKey}
-use Rattle.hall_slots.specs.Takes.{HallSeat}
 use Rattle.hall_parts.specs.Writes.{Parts, parts, told_note, IsOwner, MayBecome, StaySound}
 use Rattle.hall_parts.specs.declared.noting.Noting.{Noting}
 use Rattle.hall_parts.specs.declared.noting.Noting.TheVariants.{Same, Found, Does, Yields, Leaves, Closes, Halts}

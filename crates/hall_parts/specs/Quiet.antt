@@ -1,19 +1,11 @@
 -- By what a seat puts back that did nothing a hall goes on, and an action without words leaves the pool as it is.
 use Rattle.std.specs.Prelude.{◌≡◌, false, None, Some}
-use Rattle.dag_order.specs.declared.action_id.ActionId.{ActionId}
-use Rattle.dag_order.specs.declared.thread_id.ThreadId.{ThreadId}
-use Rattle.deque_list.specs.declared.deque_id.DequeId.{DequeId}
+use Rattle.hall_parts.specs.HallNames.{DequeId, LaneSlot, ListSlot, PoolSlot, pool_shown, lane_shown, HallKey, HallSeat, ActionId, ThreadId}
 use Rattle.play_rules.specs.declared.stop.Stop.TheVariants.{OutOfMemory}
 use Rattle.hall_slots.specs.Passed.NextVariants as nexts
 use Rattle.hall_slots.specs.Passed.Thread.{Thread}
 use Rattle.hall_parts.specs.Here.{TakesWords}
 use Rattle.hall_parts.specs.Joins.{ReleasesNothing}
-use Rattle.hall_slots.specs.declared.lane_slot.LaneSlot.{LaneSlot}
-use Rattle.hall_slots.specs.declared.list_slot.ListSlot.{ListSlot}
-use Rattle.hall_slots.specs.declared.pool_slot.PoolSlot.{PoolSlot}
-use Rattle.hall_slots.specs.Shown.{pool_shown, lane_shown}
-use Rattle.hall_slots.specs.declared.key.HallKey.{HallKey}
-use Rattle.hall_slots.specs.Takes.{HallSeat}
 use Rattle.hall_parts.specs.Writes.{parts, MayBecome}
 use Rattle.hall_parts.specs.EventParts.{MayGoOn}
 

@@ -2,9 +2,7 @@
 use Rattle.std.specs.Prelude.{◌≡◌}
 use Rattle.hall_slots.specs.Passed.BooksList.{books_list}
 use Rattle.hall_slots.specs.Passed.MovesList.{moves_list}
-use Rattle.thread_map.specs.Kept.{KeepsTheSame}
-use Rattle.hall_slots.specs.declared.list_slot.ListSlot.{ListSlot}
-use Rattle.hall_slots.specs.declared.pool_slot.PoolSlot.{PoolSlot}
+use Rattle.hall_parts.specs.HallNames.{ListSlot, PoolSlot, KeepsTheSame}
 
 -- the deques, the closed periods, the crew and the end are the same
 pub record KeepsDeques (was now : ListSlot) : Type 0 where

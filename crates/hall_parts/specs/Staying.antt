@@ -3,9 +3,8 @@ use Rattle.std.specs.Prelude.{◌≡◌, ℕ, Option, None, Some, [], ◌∷◌}
 use Rattle.std.specs.List.Sorted.{IsPermutation}
 use Rattle.dag_order.specs.Births.{root}
 use Rattle.dag_order.specs.declared.finish.Finish.{Finish}
-use Rattle.dag_order.specs.declared.thread_id.ThreadId.{ThreadId}
-use Rattle.deque_list.specs.declared.deque_id.DequeId.{DequeId}
-use Rattle.hall_slots.specs.Passed.Lists.{Each}
+use Rattle.hall_parts.specs.HallNames.{DequeId, Each, LaneSlot, ListSlot, PoolSlot, SeatNote, HallKey, table_of, quota_of, HallSeat, ThreadId, kept_under}
+use Rattle.hall_parts.specs.HallNames.{PoolIsSound}
 use Rattle.hall_slots.specs.Passed.Parts.{Has}
 use Rattle.play_rules.specs.declared.ends.RunEnd.TheVariants.{Finished}
 use Rattle.play_rules.specs.declared.stop.Stop.{Stop}
@@ -13,20 +12,11 @@ use Rattle.thread_actions.specs.Results.{HasCome}
 use Rattle.hall_slots.specs.Passed.ThreadFramesPoints.{IsAtPoint, IsResult}
 use Rattle.hall_slots.specs.Passed.Ended.{Ended}
 use Rattle.hall_slots.specs.Passed.Thread.{Thread}
-use Rattle.thread_map.specs.Kept.{kept_under}
 use Rattle.hall_slots.specs.Passed.ThreadFramesKept.{WaitsUnder, IsUnderItsId}
 use Rattle.hall_slots.specs.Passed.Roots.{end_of_root}
 use Rattle.hall_slots.specs.Passed.HallMachinePoints.{LaneAtPoints}
 use Rattle.hall_parts.specs.ListCalls.{KeepsCrew, TakesWaiting, IsHandedThere}
-use Rattle.hall_slots.specs.declared.lane_slot.LaneSlot.{LaneSlot}
-use Rattle.hall_slots.specs.declared.list_slot.ListSlot.{ListSlot}
-use Rattle.hall_slots.specs.declared.pool_slot.PoolSlot.{PoolSlot}
-use Rattle.hall_slots.specs.declared.seat_note.SeatNote.{SeatNote}
 use Rattle.hall_slots.specs.ListCalls.{HasNoOwner, IsGone, KeepsRest}
-use Rattle.hall_slots.specs.declared.key.HallKey.{HallKey}
-use Rattle.hall_slots.specs.Keys.{table_of, quota_of}
-use Rattle.hall_slots.specs.Sound.{PoolIsSound}
-use Rattle.hall_slots.specs.Takes.{HallSeat}
 use Rattle.hall_parts.specs.Writes.{parts, IsShort, StaySound}
 
 -- The note is of the same seat: it has the worker, has left or not, and was answered, as before, and a stop that it found it has found.

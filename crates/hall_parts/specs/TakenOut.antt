@@ -1,13 +1,9 @@
 -- Who waits in a list that keeps each thread under the id of its newest child.
 use Rattle.std.specs.Prelude.{◌≡◌, ◌≢◌, None, List, ◌∷◌}
-use Rattle.dag_order.specs.declared.thread_id.ThreadId.{ThreadId}
-use Rattle.hall_slots.specs.Passed.Lists.{Each}
+use Rattle.hall_parts.specs.HallNames.{Each, ListSlot, list_shown, ThreadId, ListShown}
 use Rattle.moment_laws.specs.Passed.Parts.{Child}
 use Rattle.hall_slots.specs.Passed.ThreadMapKept.{kept_under}
 use Rattle.thread_frames.specs.Kept.{WaitsUnder}
-use Rattle.hall_slots.specs.Passed.Values.{ListShown}
-use Rattle.hall_slots.specs.declared.list_slot.ListSlot.{ListSlot}
-use Rattle.hall_slots.specs.Shown.{list_shown}
 
 -- where nothing is kept under an id, no thread waits for it
 abbrev pub NobodyWaits : Type 0

@@ -6,35 +6,21 @@ use Rattle.play_rules.specs.declared.stop.Stop.{Stop}
 use Rattle.play_rules.specs.declared.stop.Stop.TheVariants.{OutOfMemory}
 use Rattle.dag_order.specs.Births.{root}
 use Rattle.dag_order.specs.declared.finish.Finish.{Finish}
-use Rattle.deque_list.specs.declared.deque_id.DequeId.{DequeId}
+use Rattle.hall_parts.specs.HallNames.{DequeId, Each, Event, LaneSlot, ListSlot, PoolSlot, SeatNote, Slot, list_shown, pool_shown, lane_shown, view_of}
+use Rattle.hall_parts.specs.HallNames.{HallKey, table_of, quota_of, terms_of, HallSeat, Terms, machine_of, Setting, kept_under, Hall, lane_at}
+use Rattle.hall_parts.specs.HallNames.{thread_that_waits, PoolIsSound, ListIsSound}
 use Rattle.deque_list.specs.declared.place.Place.{Place}
-use Rattle.hall_slots.specs.Passed.Terms.{Terms, machine_of}
-use Rattle.hall_slots.specs.Passed.States.{Setting}
 use Rattle.hall_slots.specs.Passed.Roots.{end_of_root}
 use Rattle.play_rules.specs.declared.ends.RunEnd.{RunEnd}
 use Rattle.play_rules.specs.declared.ends.RunEnd.TheVariants.{Finished}
-use Rattle.hall_slots.specs.Passed.Lists.{Each}
 use Rattle.hall_slots.specs.Passed.ThreadFramesPoints.{IsAtPoint}
-use Rattle.thread_map.specs.Kept.{kept_under}
 use Rattle.thread_state.specs.Settings.{IsSettingOf}
 use Rattle.hall_slots.specs.Passed.HallMachineViews.{View}
-use Rattle.hall_slots.specs.Passed.Values.{Hall, lane_at}
 use Rattle.hall_slots.specs.Passed.Writing.{lane_slot, place_of}
 use Rattle.hall_slots.specs.Passed.HallMachinePoints.{LaneAtPoints}
-use Rattle.hall_slots.specs.declared.event.Event.{Event}
-use Rattle.hall_slots.specs.declared.lane_slot.LaneSlot.{LaneSlot}
-use Rattle.hall_slots.specs.declared.list_slot.ListSlot.{ListSlot}
-use Rattle.hall_slots.specs.declared.pool_slot.PoolSlot.{PoolSlot}
-use Rattle.hall_slots.specs.declared.seat_note.SeatNote.{SeatNote}
-use Rattle.hall_slots.specs.declared.slot.Slot.{Slot}
 use Rattle.hall_slots.specs.declared.slot.Slot.TheVariants as slots
-use Rattle.hall_slots.specs.Shown.{list_shown, pool_shown, lane_shown, view_of}
-use Rattle.hall_slots.specs.declared.key.HallKey.{HallKey}
-use Rattle.hall_slots.specs.Keys.{table_of, quota_of, terms_of}
 use Rattle.hall_slots.specs.Law.{HallHolds}
-use Rattle.hall_slots.specs.Sound.{thread_that_waits, PoolIsSound, ListIsSound}
 use Rattle.hall_slots.specs.Steps.{IsRunning}
-use Rattle.hall_slots.specs.Takes.{HallSeat}
 
 -- the list, the pool and the lane of one deque
 pub record Parts : Type 0 where

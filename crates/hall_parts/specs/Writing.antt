@@ -1,23 +1,16 @@
 -- What the event of an owner writes into a hall, whichever it is.
 use Rattle.std.specs.Prelude.{◌≡◌, ℕ, ◌≤◌, Bool, true, false, Option, None, List, map}
 use Rattle.std.specs.List.Sorted.{IsPermutation}
-use Rattle.deque_list.specs.declared.deque_id.DequeId.{DequeId}
+use Rattle.hall_parts.specs.HallNames.{DequeId, Event, list_shown, pool_shown, lane_shown, HallKey, table_of, quota_of, terms_of, HallSeat, machine_of}
+use Rattle.hall_parts.specs.HallNames.{Setting, Hall, lane_at}
 use Rattle.hall_interleavings.specs.Events.{ActsOn, PausesOn, given_up}
 use Rattle.hall_slots.specs.Passed.DepthFirstListActions.{record_words}
 use Rattle.hall_slots.specs.Passed.Machine as machine
-use Rattle.hall_slots.specs.Passed.Terms.{machine_of}
-use Rattle.hall_slots.specs.Passed.States.{Setting}
 use Rattle.moment_laws.specs.Passed.Parts.{Thread, Result}
 use Rattle.thread_state.specs.Settings.{IsSettingOf}
-use Rattle.hall_slots.specs.Passed.Values.{Hall, lane_at}
 use Rattle.hall_slots.specs.Passed.Steps.{waited, gave_up}
 use Rattle.hall_slots.specs.Passed.Writing.{IsAtWork}
-use Rattle.hall_slots.specs.declared.event.Event.{Event}
 use Rattle.hall_slots.specs.declared.event.Event.TheVariants.{Stole, Did, Suspended, GaveUp, Halted}
-use Rattle.hall_slots.specs.Shown.{list_shown, pool_shown, lane_shown}
-use Rattle.hall_slots.specs.declared.key.HallKey.{HallKey}
-use Rattle.hall_slots.specs.Keys.{table_of, quota_of, terms_of}
-use Rattle.hall_slots.specs.Takes.{HallSeat}
 use Rattle.hall_parts.specs.Writes.{Parts, hall_with, MayBecome}
 use Rattle.hall_parts.specs.EventParts.{MayGoOn}
 use Rattle.hall_parts.specs.Puts.{note_of}

@@ -1,30 +1,25 @@
 //! The Fork.
 
-ghost use Rattle.std.specs.Prelude.{◌≡◌, ◌≤◌, ◌<◌, ◌+◌, ◌∷◌, [], ℕ, length, pos};
+ghost use Rattle.std.specs.Prelude.{◌≡◌, ◌≤◌, ◌<◌, ◌+◌, ◌∷◌, [], ℕ, length};
 ghost use Rattle.containers.specs.BoundedList.{entries, spare};
 ghost use Rattle.block_arena.specs.Region.{with_taken};
 ghost use Rattle.hall_slots.specs.Passed.DepthFirstListActions.{record_words};
-ghost use Rattle.language_limits.specs.declared.TheConstants.{GREATEST_COUNT, GREATEST_QUOTA};
+ghost use Rattle.language_limits.specs.declared.TheConstants.{GREATEST_QUOTA};
 ghost use Rattle.open_periods.specs.Periods.{open_shown};
 ghost use Rattle.open_periods.specs.Tables.{noted};
-ghost use Rattle.space_ledger.specs.MovesList.{moves_list};
-ghost use Rattle.space_ledger.specs.Sums.{total_change};
-ghost use Rattle.thread_frames.specs.Actions.{IsFork};
-ghost use Rattle.thread_frames.specs.Points.{IsPlaced};
-ghost use Rattle.thread_frames.specs.Views.{next_of, done_of};
+ghost use Rattle.hall_parts.specs.HallNames.{IsFork, next_of, pool_shown};
 ghost use Rattle.thread_frames.specs.declared.next.Next.TheVariants as nexts;
 ghost use Rattle.thread_actions.specs.Acts.{next_name};
-ghost use Rattle.hall_parts.specs.Here.{HasRoomHere, HasMovesFor, TakesWords, pool_with};
+ghost use Rattle.hall_parts.specs.Here.{MayDo, PoolBecomes, HasRoomHere, HasMovesFor, TakesWords};
 ghost use Rattle.hall_parts.specs.Forks.{ForksHere, GoBothOnTop};
 
-use crate::moves::note_move;
-use block_arena::Pool;
+use crate::actions::note_move;
 use containers::Boxed;
 use dag_order::{ActionId, Birth, Births, ThreadId};
 use deque_list::Lane;
+use hall_slots::PoolSlot;
 use language_limits::RECORD_WORDS;
 use open_periods::{Period, note_in};
-use space_ledger::Moves;
 use thread_actions::{Forked, fork_done};
 use thread_frames::{Place, Thread};
 
@@ -74,35 +69,29 @@ pub fn do_fork(
     lane: &mut Lane<Boxed<Thread>>,
     period: &mut Period,
     first: &mut Births,
-    pool: &mut Pool,
-    moves: &mut Moves,
+    pool: &mut PoolSlot,
     top: Boxed<Thread>,
     place: Place,
 ) -> ActionId
-    requires placed { IsPlaced top }
+    requires may { MayDo 2 record_words top lane.old period.old first.old }
     requires next { IsFork (next_of top) }
-    requires count { done_of top < GREATEST_COUNT }
-    requires room { HasRoomHere 2 lane.old period.old (spare first.old) }
-    requires none { entries first.old ≡ [] }
-    requires fits { period.old.used + record_words ≤ GREATEST_QUOTA }
-    requires moves { HasMovesFor pool.old.live moves.old }
-    requires arena { pool.old.live + record_words ≤ pool.old.capacity }
+    requires moves { HasMovesFor pool.old.pool.live pool.old.moves }
+    requires arena { pool.old.pool.live + record_words ≤ pool.old.pool.capacity }
     ensures acts { ForksHere top lane.old.items period.old lane.new.items period.new result }
-    ensures words { TakesWords nexts.Fork top result (pool_with pool.old.live moves.old) (pool_with pool.new.live moves.new) }
-    ensures pool { pool.new ≡ with_taken pool.old record_words }
-    ensures sum { total_change (moves_list moves.new) ≡ pos pool.new.live }
+    ensures words { TakesWords nexts.Fork top result (pool_shown pool.old) (pool_shown pool.new) }
+    ensures pool { PoolBecomes pool.new (with_taken pool.old.pool record_words) }
     ensures top { GoBothOnTop top lane.old.items lane.new.items }
     ensures name { result ≡ next_name top }
     ensures none { entries first.new ≡ [] }
 {
-    let before = pool.live();
+    let before = pool.pool.live();
     let id = next_id(period);
     let mut top = top;
-    let Ok(forked) = fork_done(&mut top, id, pool, place) else {
+    let Ok(forked) = fork_done(&mut top, id, &mut pool.pool, place) else {
         unreachable!();
     };
     let name = forked.name;
-    note_move(moves, name, before, pool.live());
+    note_move(&mut pool.moves, name, before, pool.pool.live());
     put_both_back(lane, period, first, top, forked);
     name
 }

@@ -5,14 +5,11 @@ ghost use Rattle.std.specs.List.Sorted.{IsPermutation};
 ghost use Rattle.hall_slots.specs.Passed.Parts.{Has};
 ghost use Rattle.space_ledger.specs.BooksList.{books_spare};
 ghost use Rattle.hall_slots.specs.Passed.ThreadMapKept.{kept_under};
-ghost use Rattle.thread_actions.specs.Results.{IsToCome, HasCome, IsGiven};
-ghost use Rattle.thread_frames.specs.Children.{IsAwaited, IsOnlyNewest};
-ghost use Rattle.thread_frames.specs.Views.{children_of, join_words_of, label_of};
-ghost use Rattle.thread_frames.specs.declared.ended.Ended.{Ended as AnyEnded};
+ghost use Rattle.thread_actions.specs.Results.{IsGiven};
+ghost use Rattle.hall_parts.specs.HallNames.{IsAwaited, IsOnlyNewest, children_of, join_words_of, label_of, list_shown};
 ghost use Rattle.thread_frames.specs.Passed.Joins.{released};
 ghost use Rattle.hall_slots.specs.ListCalls.{IsGone};
-ghost use Rattle.hall_slots.specs.Shown.{list_shown};
-ghost use Rattle.hall_parts.specs.ListCalls.{SuspendsThere, LeavesThere, TakesWaiting, IsHandedThere, KeepsCrew};
+ghost use Rattle.hall_parts.specs.ListCalls.{SuspendsThere, LeavesThere, TakesWaiting, KeepsCrew};
 
 use containers::Boxed;
 use dag_order::ThreadId;
@@ -78,27 +75,10 @@ pub fn take_waiting(list: &mut ListSlot, child: ThreadId) -> Option<Boxed<Thread
 }
 
 /// Delivers the result of a child to its parent. The words that its Join gives back are then those that the result would release.
-fn deliver(top: &mut Boxed<Thread>, ended: Ended)
+pub fn deliver(top: &mut Boxed<Thread>, ended: Ended)
     requires { IsAwaited (label_of top.old) ended (children_of top.old) }
     ensures given { IsGiven ended top.old top.new }
     ensures releases { IsOnlyNewest ended.id (children_of top.old) → join_words_of top.new ≡ released top.old.run.state ended.state }
 {
     top.get_mut().deliver(ended);
-}
-
-/// Hands the kept result of a child to the thread that joins it. If this has no other open child of its id, the words that the Join gives back
-/// are then those that the result would release.
-pub fn hand_over(list: &mut ListSlot, top: &mut Boxed<Thread>, child: ThreadId)
-    requires { IsToCome list.old.part.results top.old child }
-    ensures come { HasCome list.old.part.results list.new.part.results top.old top.new child }
-    ensures shown { IsHandedThere list.old list.new top.old top.new child }
-    ensures releases { (ended : AnyEnded) → kept_under list.old.part.results child ≡ Some ended → IsOnlyNewest ended.id (children_of top.old)
-        → join_words_of top.new ≡ released top.old.run.state ended.state }
-    ensures waiting { list.new.part.waiting ≡ list.old.part.waiting }
-    ensures rest { KeepsCrew list.old list.new }
-{
-    let Some(ended) = list.part.results.take(child) else {
-        unreachable!();
-    };
-    deliver(top, ended);
 }

@@ -21,8 +21,11 @@ returns-clause-acts c = (
 
 pub returns-clause-words : goal.returns-clause-words
 returns-clause-words c =
-    takes_words Fork c.args.top c.in-Ok.forked.name c.args.pool.now.live c.fork_done.new.pool.live c.args.moves.now c.note_move.new.moves record_words (λ w told. told)
-    (ap (λ p. pos p.live) c.in-Ok.ensures.pool ∙ taken_change c.args.pool.now.live record_words) refl c.live-before.result c.live.result c.live-before.ensures.value c.live.ensures.value c.note_move.ensures.moves
+    takes_words Fork c.args.top c.in-Ok.forked.name c.args.pool.now.pool.live c.fork_done.new.pool.live c.args.pool.now.moves c.note_move.new.moves record_words (λ w told. told)
+    (ap (λ p. pos p.live) c.in-Ok.ensures.pool ∙ taken_change c.args.pool.now.pool.live record_words) refl c.live-before.result c.live.result c.live-before.ensures.value c.live.ensures.value c.note_move.ensures.moves
 
 pub returns-clause-top : goal.returns-clause-top
 returns-clause-top c = (c.fork_done.new.top, c.in-Ok.forked.child, c.put_both_back.ensures.lane, c.in-Ok.ensures.point, c.in-Ok.ensures.child)
+
+pub returns-clause-pool : goal.returns-clause-pool
+returns-clause-pool c = record { pool = c.in-Ok.ensures.pool; sum = c.note_move.ensures.sum ∙ ap pos c.live.ensures.value }

@@ -1,9 +1,6 @@
 use Rattle.std.proofs.Common.{◌≡◌, ◌+◌, ◌∙◌, sym, ap, subst}
-use Rattle.thread_frames.specs.Actions.{IsSame}
-use Rattle.thread_frames.specs.Children.{with_delivered, IsOnlyNewest}
-use Rattle.thread_frames.specs.Points.{IsAtPoint}
-use Rattle.thread_frames.specs.Views.{children_of, done_of, forks_of, join_words_of, next_of, thread_words, ended_words}
-use Rattle.thread_frames.specs.declared.thread.Thread.{Thread}
+use Rattle.hall_parts.specs.HallNames.{IsSame, with_delivered, IsOnlyNewest, IsAtPoint, children_of, done_of, forks_of, join_words_of, next_of}
+use Rattle.hall_parts.specs.HallNames.{thread_words, ended_words, Thread}
 use Rattle.thread_frames.specs.Passed.Joins.{released}
 use Rattle.hall_parts.proofs.list_calls.deliver.Goals as goal
 

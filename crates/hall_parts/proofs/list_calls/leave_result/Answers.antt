@@ -2,8 +2,7 @@ use Rattle.std.proofs.Common.{◌∷◌, map, sym, ap, subst, ◌∙◌}
 use Rattle.std.proofs.lemmas.List.Sorted.{IsPermutation-map}
 use Rattle.std.specs.List.Sorted.{IsPermutation}
 use Rattle.thread_frames.specs.Kept.{result_kept}
-use Rattle.thread_frames.specs.Shown.{result_shown}
-use Rattle.hall_slots.specs.Passed.Values.{ListShown}
+use Rattle.hall_parts.specs.HallNames.{result_shown, ListShown}
 use Rattle.hall_parts.proofs.list_calls.leave_result.Goals as goal
 
 pub returns-clause-shown : goal.returns-clause-shown

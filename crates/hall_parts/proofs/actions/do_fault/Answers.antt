@@ -1,0 +1,26 @@
+use Rattle.std.proofs.Common.{refl, ap, ◌∙◌}
+use Rattle.std.specs.Prelude.{pos}
+use Rattle.open_periods.specs.Periods.{open_shown}
+use Rattle.thread_frames.specs.Views.{held_by}
+use Rattle.thread_frames.specs.declared.next.Next.TheVariants.{Fault}
+use Rattle.hall_parts.proofs.Written.{alone_written}
+use Rattle.hall_parts.proofs.Taking.{takes_words, given_change}
+use Rattle.hall_parts.proofs.actions.do_fault.Goals as goal
+
+pub returns-clause-acts : goal.returns-clause-acts
+returns-clause-acts c at worker setting k is given h w own =
+    alone_written w k _ c.args.top c.fault_done-name.new.top c.args.lane.now.items c.put_back.new.lane.items c.args.period.now c.put_back.new.period
+    c.fault_done-name.result 0 is.place own (c.fault_done-name.ensures.did at setting k is (open_shown worker c.args.period.now) given)
+    c.put_back.ensures.lane (c.put_back.ensures.period worker)
+
+pub returns-clause-words : goal.returns-clause-words
+returns-clause-words c at =
+    let held = held_by c.args.top in
+    takes_words (Fault at) c.args.top c.fault_done-name.result c.args.pool.now.pool.live c.fault_done-name.new.pool.live c.args.pool.now.moves c.note_move.new.moves held
+    (λ w told. told) (ap (λ p. pos p.live) c.fault_done-name.ensures.pool ∙ given_change c.args.pool.now.pool.live held c.requires.live) refl c.live-before.result c.live.result c.live-before.ensures.value c.live.ensures.value c.note_move.ensures.moves
+
+pub returns-clause-top : goal.returns-clause-top
+returns-clause-top c = (c.fault_done-name.new.top, c.put_back.ensures.lane, c.fault_done-name.ensures.point)
+
+pub returns-clause-pool : goal.returns-clause-pool
+returns-clause-pool c = record { pool = c.fault_done-name.ensures.pool; sum = c.note_move.ensures.sum ∙ ap pos c.live.ensures.value }
