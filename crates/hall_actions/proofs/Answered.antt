@@ -2,11 +2,9 @@
 use Rattle.std.proofs.Common.{◌≡◌, ℕ, ◌+◌, ◌<◌, List, [], ◌∷◌, set, inl, refl, sym, ap, ◌∙◌, subst}
 use mathlib.Core.Option.{some}
 use lib.ListN.{get_elem?}
-use Rattle.deque_list.specs.declared.deque_id.DequeId.{DequeId}
+use Rattle.hall_parts.specs.HallNames.{DequeId, HallSeat, HallKey, LaneSlot, ListSlot, SeatNote, Slot, HasAs, NoteMay, with_hand}
 use Rattle.turn_table.specs.Hands.{renewed, without_slot}
 use Rattle.turn_table.specs.Law.{PutKeeps}
-use Rattle.turn_table.specs.Notes.{HasAs, NoteMay}
-use Rattle.turn_table.specs.Seats.{with_hand}
 use Rattle.turn_table.proofs.Left.{first_of_two}
 use Rattle.turn_table.proofs.NoteLaws.{put_noted, quiet_shown}
 use Rattle.turn_table.proofs.Standing.{shown_as}
@@ -17,12 +15,6 @@ use Rattle.hall_slots.specs.Lists.{answered_note, HoldsTheEnd}
 use Rattle.hall_slots.proofs.Ends.{parts_sound}
 use Rattle.hall_slots.proofs.Listed.{answered_may}
 use Rattle.hall_slots.specs.Law.{HallHolds, places_of, joined_note}
-use Rattle.hall_slots.specs.Takes.{HallSeat}
-use Rattle.hall_slots.specs.declared.key.HallKey.{HallKey}
-use Rattle.hall_slots.specs.declared.lane_slot.LaneSlot.{LaneSlot}
-use Rattle.hall_slots.specs.declared.list_slot.ListSlot.{ListSlot}
-use Rattle.hall_slots.specs.declared.seat_note.SeatNote.{SeatNote}
-use Rattle.hall_slots.specs.declared.slot.Slot.{Slot}
 use Rattle.hall_slots.specs.declared.slot.Slot.TheVariants as slots
 use Rattle.hall_slots.proofs.Keeping.{Whole}
 use Rattle.hall_slots.proofs.Putting.{list_may}

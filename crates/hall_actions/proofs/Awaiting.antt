@@ -5,12 +5,7 @@ use Rattle.std.proofs.lemmas.List.{reverse-append, map-append}
 use Rattle.hall_slots.specs.Passed.Lists.{Among, Each}
 use Rattle.hall_slots.proofs.Passed.DequeMachineLists.{each_among, each_from, each_join}
 use Rattle.moment_shown.specs.Parts as parts
-use Rattle.thread_frames.specs.Actions.{IsStill}
-use Rattle.thread_frames.specs.Children.{same_id, IsResultFor, either_of, IsAwaited}
-use Rattle.thread_frames.specs.Views.{Child}
-use Rattle.thread_frames.specs.Shown.{child_shown, thread_shown}
-use Rattle.thread_frames.specs.declared.ended.Ended.{Ended}
-use Rattle.thread_frames.specs.declared.thread.Thread.{Thread}
+use Rattle.hall_parts.specs.HallNames.{IsStill, same_id, IsResultFor, either_of, IsAwaited, Child, child_shown, thread_shown, Ended, Thread}
 use Rattle.thread_frames.proofs.Found.{same_with_itself}
 use Rattle.thread_map.proofs.KeptLemmas.{same_is_same}
 

@@ -14,13 +14,9 @@ use Rattle.hall_slots.specs.Passed.Period.{Period as OpenPeriod}
 use Rattle.hall_parts.specs.Passed.Acts.{AllocIsCharged, IsCharged}
 use Rattle.hall_parts.specs.Passed.Readiness.{IsReadiness}
 use Rattle.hall_parts.specs.Passed.ReadinessVariants.{Ready, Spent}
-use Rattle.thread_frames.specs.Actions.{IsOfTheList, deed_of}
-use Rattle.thread_frames.specs.declared.next.Next.{Next}
 use Rattle.thread_frames.specs.declared.next.Next.TheVariants.{Fork, Join, Alloc, Release, Dummy, Fault, End}
-use Rattle.thread_frames.specs.declared.thread.Thread.{Thread}
 use Rattle.hall_parts.specs.Passed.Settings.{IsSettingOf}
-use Rattle.hall_slots.specs.declared.key.HallKey.{HallKey}
-use Rattle.hall_slots.specs.Keys.{table_of, quota_of}
+use Rattle.hall_parts.specs.HallNames.{HallKey, table_of, quota_of, IsOfTheList, deed_of, Next, Thread}
 use Rattle.hall_actions.specs.Quotas.{ReadyMayBeDone, SpentIsTooMuch}
 
 -- words of which no more than the quota may be asked for are charged; more are not

@@ -3,24 +3,16 @@ use Rattle.std.proofs.Common.{◌≡◌, ℕ, ◌+◌, ◌<◌, List, [], ◌∷
 use Rattle.std.specs.Option.{option_map}
 use Rattle.std.specs.Prelude.{Some, Bool, Result, Ok, Err, IfOk}
 use Rattle.containers.specs.BoundedList.{spare}
-use Rattle.deque_list.specs.declared.deque_id.DequeId.{DequeId}
-use Rattle.hall_parts.specs.Passed.StopVariants.{OutOfMemory as NoMemory}
-use Rattle.thread_frames.specs.declared.next.Next.{Next}
-use Rattle.turn_table.specs.Notes.{HasAs}
-use Rattle.turn_table.specs.Seats.{with_hand}
+use Rattle.hall_parts.specs.HallNames.{DequeId, running_shown, HallSeat, IsTaken, MeetsLaw, HallKey, LaneSlot, Slot, Next, HasAs, with_hand}
+use Rattle.play_rules.specs.declared.stop.Stop.{Stop}
 use Rattle.hall_parts.specs.Puts.{HasPut}
 use Rattle.hall_actions.specs.Reads.{HoldsItsLane}
 use Rattle.hall_actions.proofs.Reading.{owners_read}
-use Rattle.hall_slots.specs.Shown.{running_shown}
-use Rattle.hall_slots.specs.Takes.{HallSeat, IsTaken, MeetsLaw}
-use Rattle.hall_slots.specs.declared.key.HallKey.{HallKey}
-use Rattle.hall_slots.specs.declared.lane_slot.LaneSlot.{LaneSlot}
-use Rattle.hall_slots.specs.declared.slot.Slot.{Slot}
 use Rattle.hall_slots.specs.declared.slot.Slot.TheVariants as slots
 use Rattle.hall_actions.specs.Advancing.{HasCome, HasLooked, IsNotBusy, IsReadable, MayCome, RunsOn, took_lane}
-use Rattle.hall_actions.specs.Stepping.{HasStepped, StepsBack, StepsFreely}
-use Rattle.hall_actions.specs.declared.advancing.AdvanceRefused.{AdvanceRefused}
-use Rattle.hall_actions.specs.declared.advancing.AdvanceRefused.TheVariants.{Busy, OutOfMemory}
+use Rattle.hall_actions.specs.Stepping.{GoesSteps, StepsBack}
+use Rattle.hall_actions.specs.declared.refused.ActRefused.{ActRefused}
+use Rattle.hall_actions.specs.declared.refused.ActRefused.TheVariants.{Busy, Over, Stopped}
 use Rattle.hall_actions.specs.declared.at_next.AtNext.{AtNext}
 use Rattle.hall_actions.specs.declared.memory.SeatMemory.{SeatMemory}
 
@@ -46,17 +38,18 @@ module _ (key : HallKey) (before middle : HallSeat) (deque : DequeId) (was : Lan
       }
 
   -- a lane that went back since memory was wanting
-  pub fell_short : (after : HallSeat) → HasPut middle (record middle.hand.note { found = Some NoMemory }) [] after
-      → HasLooked before (took_lane deque was ∷ []) (record before.hand.note { found = Some NoMemory }) after
-  fell_short after put = put ∙ ap (λ (s : HallSeat). with_hand s (record { seated = s.hand.seated; holds = []; note = record s.hand.note { found = Some NoMemory }; looks = s.hand.looks })) taken
+  pub fell_short : (stop : Stop) (after : HallSeat) → HasPut middle (record middle.hand.note { found = Some stop }) [] after
+      → HasLooked before (took_lane deque was ∷ []) (record before.hand.note { found = Some stop }) after
+  fell_short stop after put = put ∙ ap (λ (s : HallSeat). with_hand s (record { seated = s.hand.seated; holds = []; note = record s.hand.note { found = Some stop }; looks = s.hand.looks })) taken
 
-  pub has_come : (memory : SeatMemory) (r : Result (AtNext × Next) AdvanceRefused) (after : HallSeat) → RunsOn key middle was (spare memory.births) r after → HasCome key before deque memory r after
+  pub has_come : (memory : SeatMemory) (r : Result (AtNext × Next) ActRefused) (after : HallSeat) → RunsOn key middle was (spare memory.births) r after → HasCome key before deque memory r after
   has_come memory (Ok come) after runs = (was, runs.0 ∙ taken, runs.1)
   has_come memory (Err (Busy held)) after runs = absurd runs
-  has_come memory (Err OutOfMemory) after runs = (was, fell_short after runs)
+  has_come memory (Err (Over end)) after runs = absurd runs
+  has_come memory (Err (Stopped stop)) after runs = (runs.0, (was, fell_short stop after runs.1))
 
   -- a lane that went back after some steps
-  pub has_stepped : (r : Result Bool AdvanceRefused) (after : HallSeat) → StepsBack key middle was r after → HasStepped key before deque r after
+  pub has_stepped : (r : Result Bool ActRefused) (after : HallSeat) → StepsBack key middle was r after → GoesSteps key before deque r after
   has_stepped (Ok came) after back = (
     was,
     back.0,
@@ -65,25 +58,21 @@ module _ (key : HallKey) (before middle : HallSeat) (deque : DequeId) (was : Lan
         ∙ ap (λ (s : HallSeat). with_hand s (record { seated = s.hand.seated; holds = []; note = s.hand.note; looks = s.hand.looks })) taken,
   )
   has_stepped (Err (Busy held)) after put = absurd put
-  has_stepped (Err OutOfMemory) after put = (was, fell_short after put)
-
--- and which was refused nothing on the way
-pub steps_freely : (key : HallKey) (before : HallSeat) (was : LaneSlot) (r : Result Bool AdvanceRefused) (after : HallSeat)
-    → StepsBack key before was r after → StepsFreely r
-steps_freely key before was (Ok came) after back = tt
-steps_freely key before was (Err (Busy held)) after back = absurd back
-steps_freely key before was (Err OutOfMemory) after back = tt
+  has_stepped (Err (Over end)) after put = absurd put
+  has_stepped (Err (Stopped stop)) after put = (put.0, (was, fell_short stop after put.1))
 
 -- a seat whose thread has come there still meets the law
-pub still_meets : (key : HallKey) (middle : HallSeat) (was : LaneSlot) (ready : ℕ) (r : Result (AtNext × Next) AdvanceRefused) (after : HallSeat)
+pub still_meets : (key : HallKey) (middle : HallSeat) (was : LaneSlot) (ready : ℕ) (r : Result (AtNext × Next) ActRefused) (after : HallSeat)
     → RunsOn key middle was ready r after → MeetsLaw key middle → IfOk r (λ _. MeetsLaw key after)
 still_meets key middle was ready (Ok come) after runs meets = subst (MeetsLaw key) (sym runs.0) meets
 still_meets key middle was ready (Err (Busy held)) after runs meets = tt
-still_meets key middle was ready (Err OutOfMemory) after runs meets = tt
+still_meets key middle was ready (Err (Over end)) after runs meets = tt
+still_meets key middle was ready (Err (Stopped stop)) after runs meets = tt
 
 -- and was refused nothing on the way
-pub not_busy : (key : HallKey) (middle : HallSeat) (was : LaneSlot) (ready : ℕ) (r : Result (AtNext × Next) AdvanceRefused) (after : HallSeat)
+pub not_busy : (key : HallKey) (middle : HallSeat) (was : LaneSlot) (ready : ℕ) (r : Result (AtNext × Next) ActRefused) (after : HallSeat)
     → RunsOn key middle was ready r after → IsNotBusy r
 not_busy key middle was ready (Ok come) after runs = tt
 not_busy key middle was ready (Err (Busy held)) after runs = absurd runs
-not_busy key middle was ready (Err OutOfMemory) after runs = tt
+not_busy key middle was ready (Err (Over end)) after runs = tt
+not_busy key middle was ready (Err (Stopped stop)) after runs = tt

@@ -3,9 +3,9 @@ use Rattle.std.proofs.Common.{◌≡◌, ◌≢◌, ℕ, ◌<◌, List, [], ◌�
 use Rattle.std.specs.Prelude.{Option, None, Some}
 use base.Stored.{Coded-set}
 use Rattle.dag_order.specs.Births.{root}
-use Rattle.dag_order.specs.declared.thread_id.ThreadId.{ThreadId}
-use Rattle.deque_list.specs.declared.deque_id.DequeId.{DequeId}
-use Rattle.hall_slots.specs.Passed.Terms.{machine_of}
+use Rattle.hall_parts.specs.HallNames.{DequeId, LaneSlot, ListSlot, HallKey, table_of, quota_of, terms_of, HallSeat, MeetsLaw, ThreadId, machine_of}
+use Rattle.hall_parts.specs.HallNames.{IsResultFor, IsAtPoint, child_shown, thread_shown, result_shown, Child, children_of, ended_label, label_of, Ended}
+use Rattle.hall_parts.specs.HallNames.{Thread, kept_under, id_code, HasAs, thread_that_waits}
 use Rattle.hall_slots.proofs.Passed.Built.{whole_is_depth_first}
 use Rattle.hall_slots.specs.Passed.Lists.{Among}
 use Rattle.hall_slots.proofs.Passed.DequeMachineLists.{cons_is_not_nil, each_among}
@@ -14,28 +14,14 @@ use Rattle.moment_shown.proofs.Shown.{among_map}
 use Rattle.hall_parts.specs.Passed.MomentLawsResults.{IsChildOf}
 use Rattle.hall_parts.proofs.Passed.Parents.{parents_await}
 use Rattle.thread_actions.specs.Results.{FirstAwaits}
-use Rattle.thread_frames.specs.Children.{IsResultFor}
 use Rattle.thread_frames.specs.Kept.{IsUnderItsId, WaitsUnder, waiting_shown, result_kept}
-use Rattle.thread_frames.specs.Points.{IsAtPoint}
-use Rattle.thread_frames.specs.Shown.{child_shown, thread_shown, result_shown}
-use Rattle.thread_frames.specs.Views.{Child, children_of, ended_label, label_of}
-use Rattle.thread_frames.specs.declared.ended.Ended.{Ended}
 use Rattle.thread_frames.specs.declared.next.Next.TheVariants as nexts
-use Rattle.thread_frames.specs.declared.thread.Thread.{Thread}
 use Rattle.thread_frames.proofs.Found.{found_among}
 use Rattle.thread_frames.proofs.Threads.{next_actions_stand}
-use Rattle.thread_map.specs.Kept.{kept_under, id_code}
-use Rattle.turn_table.specs.Notes.{HasAs}
 use Rattle.scheduler_state.proofs.Joining.{awaited_one}
 use Rattle.scheduler_state.proofs.Newest.{among_reversed}
 use Rattle.hall_machine.specs.Values.{parts_of}
-use Rattle.hall_slots.specs.declared.lane_slot.LaneSlot.{LaneSlot}
-use Rattle.hall_slots.specs.declared.list_slot.ListSlot.{ListSlot}
 use Rattle.hall_slots.specs.declared.slot.Slot.TheVariants as slots
-use Rattle.hall_slots.specs.declared.key.HallKey.{HallKey}
-use Rattle.hall_slots.specs.Keys.{table_of, quota_of, terms_of}
-use Rattle.hall_slots.specs.Sound.{thread_that_waits}
-use Rattle.hall_slots.specs.Takes.{HallSeat, MeetsLaw}
 use Rattle.hall_actions.specs.Reads.{HoldsItsLane}
 use Rattle.hall_actions.specs.Lists.{ComesTo, ReadsEnd, EndsAreRead, ReadsParent, ReadsLeave, LeavesAreRead}
 use Rattle.hall_actions.proofs.AtEnd.{not_kept, is_child, root_alone, root_id, root_unwaited}

@@ -1,31 +1,26 @@
 -- A thread to which the kept result of its child was handed over, before the Join of it.
-use Rattle.std.proofs.Common.{◌≡◌, List, [], ◌∷◌, ◌++◌, map, reverse, refl, sym, ap, ◌∙◌, subst, true≢false}
+use Rattle.std.proofs.Common.{◌≡◌, ◌<◌, List, [], ◌∷◌, ◌++◌, map, reverse, refl, sym, ap, ◌∙◌, subst, true≢false}
 use Rattle.std.proofs.lemmas.List.{reverse-append, map-append}
 use Rattle.std.proofs.Math.Logic.{∥∥₁_map}
 use Rattle.std.proofs.lemmas.Option.{same_Some}
 use Rattle.std.specs.Prelude.{Bool, true, false, Some}
-use Rattle.dag_order.specs.declared.thread_id.ThreadId.{ThreadId}
-use Rattle.hall_slots.specs.Passed.Lists.{Each}
+use Rattle.containers.specs.declared.bounded_list.BoundedList.{BoundedList}
+use Rattle.dag_order.specs.declared.birth.Birth.{Birth}
+use Rattle.deque_list.specs.Lanes.{LaneView}
+use Rattle.language_limits.specs.declared.TheConstants.{GREATEST_COUNT}
+use Rattle.hall_slots.specs.Passed.Period.{Period}
+use Rattle.hall_parts.specs.HallNames.{Each, ListSlot, HallKey, table_of, quota_of, ThreadId, child_shown, IsJoin, is_there, IsOnlyNewest, delivered_if}
+use Rattle.hall_parts.specs.HallNames.{same_id, with_delivered, IsAtPoint, IsResult, Child, children_of, newest, next_of, Ended, Thread, Kept}
 use Rattle.hall_slots.specs.Passed.Writing.{IsHanded}
 use Rattle.hall_slots.proofs.Passed.DequeMachineLists.{each_join, each_right}
 use Rattle.thread_frames.specs.Passed.Parts as shown
-use Rattle.thread_frames.specs.Shown.{child_shown, thread_shown}
 use Rattle.thread_frames.proofs.Found.{same_with_itself}
-use Rattle.thread_frames.specs.Actions.{IsJoin, is_there}
-use Rattle.thread_frames.specs.Children.{IsOnlyNewest, delivered_if, same_id, with_delivered}
-use Rattle.thread_frames.specs.Points.{IsAtPoint, IsResult}
-use Rattle.thread_frames.specs.Views.{Child, children_of, newest, next_of}
-use Rattle.thread_frames.specs.declared.ended.Ended.{Ended}
 use Rattle.thread_frames.specs.declared.next.Next.TheVariants as nexts
-use Rattle.thread_frames.specs.declared.thread.Thread.{Thread}
 use Rattle.thread_frames.proofs.Listing.{of_list}
-use Rattle.thread_map.specs.Kept.{Kept}
 use Rattle.hall_parts.specs.Passed.ThreadActionsResults.{HasCome}
 use Rattle.hall_parts.specs.EventParts.{IsNext}
+use Rattle.hall_parts.specs.Here.{MayDo}
 use Rattle.hall_parts.specs.ListCalls.{IsHandedThere}
-use Rattle.hall_slots.specs.declared.list_slot.ListSlot.{ListSlot}
-use Rattle.hall_slots.specs.declared.key.HallKey.{HallKey}
-use Rattle.hall_slots.specs.Keys.{table_of, quota_of}
 use Rattle.hall_actions.specs.Kept.{CanJoinKept}
 
 -- if the newest child alone has the id, it has the result once that is delivered
@@ -106,3 +101,15 @@ is_newest key list top child j after handed come =
     let newest = newest_first child (children_of top) j.only in
     comes_first child newest.first newest.others come.handed.front come.handed.back come.handed.child newest.differ
     (sym newest.are ∙ come.handed.children_were) (come.handed.child_is ∙ its_id)
+
+-- so it may do its Join, as it might do an action before
+pub may_join : (key : HallKey) (list : ListSlot) (top : Thread) (child : ThreadId) (joins : CanJoinKept key list top child) (results : Kept Ended) (now : Thread)
+    → HasCome list.part.results results top now child → IsAtPoint (table_of key) (quota_of key) top
+    → (under : LaneView Thread) (running : Period) (first : BoundedList Birth) → MayDo 1 0 top under running first → MayDo 1 0 now under running first
+may_join key list top child joins results now come point under running first may = record {
+  placed = ∣ (table_of key, quota_of key, its_point key list top child joins results now come point) ∣₁;
+  count = subst (λ n. n < GREATEST_COUNT) (sym come.given.done) may.count;
+  room = may.room;
+  none = may.none;
+  fits = may.fits;
+}

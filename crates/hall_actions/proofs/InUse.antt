@@ -5,36 +5,22 @@ use Rattle.std.specs.Prelude.{Bool, true, false, Some}
 use denote.Struct.Props.{props}
 use mathlib.Core.Option.{some}
 use lib.ListN.{get_elem?}
-use Rattle.dag_order.specs.declared.thread_id.ThreadId.{ThreadId}
-use Rattle.deque_list.specs.declared.deque_id.DequeId.{DequeId}
+use Rattle.hall_parts.specs.HallNames.{DequeId, LaneSlot, ListSlot, PoolSlot, HallKey, table_of, quota_of, HallSeat, MeetsLaw, ThreadId, IsPlaced}
+use Rattle.hall_parts.specs.HallNames.{result_shown, ended_words, next_of, thread_words, Ended, Next, Thread, kept_under, HasAs}
 use Rattle.hall_slots.specs.Passed.Lists.{Among, total}
 use Rattle.moment_shown.specs.Parts.{Parts, deque_words, result_words}
 use Rattle.moment_shown.specs.Events.{Works}
 use Rattle.moment_shown.proofs.Shown.{among_map, deque_words_middle}
 use Rattle.thread_frames.specs.Kept.{result_kept}
-use Rattle.thread_frames.specs.Points.{IsPlaced}
-use Rattle.thread_frames.specs.Shown.{result_shown}
-use Rattle.thread_frames.specs.Views.{ended_words, next_of, thread_words}
-use Rattle.thread_frames.specs.declared.ended.Ended.{Ended}
-use Rattle.thread_frames.specs.declared.next.Next.{Next}
 use Rattle.thread_frames.specs.declared.next.Next.TheVariants as nexts
-use Rattle.thread_frames.specs.declared.thread.Thread.{Thread}
 use Rattle.thread_frames.proofs.Found.{found_among}
 use Rattle.thread_frames.proofs.Placed.{placed_of}
-use Rattle.thread_map.specs.Kept.{kept_under}
 use Rattle.hall_parts.specs.Passed.Joins.{words_by, released}
 use Rattle.hall_parts.specs.Passed.States.{words_held}
-use Rattle.turn_table.specs.Notes.{HasAs}
 use Rattle.turn_table.proofs.Standing.{shown_as}
 use Rattle.thread_frames.proofs.Bounds.{release_within, join_within, end_within}
 use Rattle.hall_machine.specs.Values.{PoolShown, parts_of}
-use Rattle.hall_slots.specs.declared.lane_slot.LaneSlot.{LaneSlot}
-use Rattle.hall_slots.specs.declared.list_slot.ListSlot.{ListSlot}
-use Rattle.hall_slots.specs.declared.pool_slot.PoolSlot.{PoolSlot}
 use Rattle.hall_slots.specs.declared.slot.Slot.TheVariants as slots
-use Rattle.hall_slots.specs.declared.key.HallKey.{HallKey}
-use Rattle.hall_slots.specs.Keys.{table_of, quota_of}
-use Rattle.hall_slots.specs.Takes.{HallSeat, MeetsLaw}
 use Rattle.hall_slots.proofs.Written.{pool_at}
 use Rattle.hall_actions.specs.Reads.{HoldsItsLane}
 use Rattle.hall_actions.specs.Lists.{ComesTo, words_back, WordsAreInUse, KeptWordsAreInUse}

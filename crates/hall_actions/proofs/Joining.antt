@@ -1,37 +1,23 @@
 -- What an owner knows whose top thread is before a Join.
 use Rattle.std.proofs.Common.{◌≡◌, ◌≢◌, List, [], ◌∷◌, map, reverse, refl, sym, ap, ◌∙◌, subst}
 use Rattle.std.specs.Prelude.{Option, None, Some, false}
-use Rattle.dag_order.specs.declared.thread_id.ThreadId.{ThreadId}
-use Rattle.deque_list.specs.declared.deque_id.DequeId.{DequeId}
-use Rattle.hall_slots.specs.Passed.Terms.{machine_of}
+use Rattle.hall_parts.specs.HallNames.{DequeId, LaneSlot, ListSlot, HallKey, table_of, quota_of, terms_of, HallSeat, MeetsLaw, ThreadId, machine_of}
+use Rattle.hall_parts.specs.HallNames.{deed_of, is_there, IsAwaited, IsOnlyNewest, is_delivered, IsResult, child_shown, thread_shown, result_shown, Child}
+use Rattle.hall_parts.specs.HallNames.{children_of, label_of, newest, ordinal_of as ordinal_in, Ended, Thread, kept_under, HasAs}
 use Rattle.depth_first_list.specs.Actions.{joins}
 use Rattle.hall_slots.proofs.Passed.Built.{whole_is_depth_first}
 use Rattle.hall_slots.specs.Passed.Lists.{Among, Each}
 use Rattle.hall_slots.proofs.Passed.DequeMachineLists.{cons_is_not_nil, each_among, each_from}
 use Rattle.moment_shown.specs.Parts as parts
 use Rattle.moment_shown.proofs.Shown.{among_map}
-use Rattle.thread_frames.specs.Actions.{deed_of, is_there}
-use Rattle.thread_frames.specs.Children.{IsAwaited, IsOnlyNewest, is_delivered}
 use Rattle.thread_frames.specs.Kept.{IsUnderItsId, WaitsUnder, waiting_shown, result_kept}
-use Rattle.thread_frames.specs.Points.{IsResult}
-use Rattle.thread_frames.specs.Shown.{child_shown, thread_shown, result_shown}
-use Rattle.thread_frames.specs.Views.{Child, children_of, label_of, newest, ordinal_of as ordinal_in}
-use Rattle.thread_frames.specs.declared.ended.Ended.{Ended}
 use Rattle.thread_frames.specs.declared.next.Next.TheVariants as nexts
-use Rattle.thread_frames.specs.declared.thread.Thread.{Thread}
 use Rattle.thread_frames.proofs.Found.{found_among, none_found}
 use Rattle.thread_frames.proofs.Threads.{newest_last}
-use Rattle.thread_map.specs.Kept.{kept_under}
-use Rattle.turn_table.specs.Notes.{HasAs}
 use Rattle.scheduler_state.proofs.Joining.{awaited_one}
 use Rattle.scheduler_state.proofs.Newest.{Cut, cut_newest, shown_cut, among_reversed, AreOthers, delivered_last, only_last, awaits_last}
 use Rattle.hall_machine.specs.Values.{parts_of}
-use Rattle.hall_slots.specs.declared.lane_slot.LaneSlot.{LaneSlot}
-use Rattle.hall_slots.specs.declared.list_slot.ListSlot.{ListSlot}
 use Rattle.hall_slots.specs.declared.slot.Slot.TheVariants as slots
-use Rattle.hall_slots.specs.declared.key.HallKey.{HallKey}
-use Rattle.hall_slots.specs.Keys.{table_of, quota_of, terms_of}
-use Rattle.hall_slots.specs.Takes.{HallSeat, MeetsLaw}
 use Rattle.hall_actions.specs.Reads.{HoldsItsLane}
 use Rattle.hall_actions.specs.Lists.{ComesTo, ReadsJoin, JoinsAreRead, ReadsWait, WaitsAreRead, ReadsResult, ResultsAreAwaited}
 use Rattle.hall_actions.proofs.AtJoin.{other_children, unwaited, its_result, waits_alone}

@@ -2,7 +2,7 @@
 use Rattle.std.proofs.Common.{◌≡◌, ◌≢◌, ◌⊎◌, ℕ, ◌≤◌, List, ◌∷◌, inl, inr, refl, sym, ◌∙◌}
 use Rattle.std.proofs.lemmas.Option.{none-some}
 use Rattle.std.specs.Prelude.{None, Some}
-use Rattle.deque_list.specs.declared.deque_id.DequeId.{DequeId}
+use Rattle.hall_parts.specs.HallNames.{DequeId, table_of, quota_of, HallSeat, HallKey, LaneSlot, ListSlot, PoolSlot, SeatNote, Thread}
 use Rattle.depth_first_list.specs.Actions.{record_words}
 use Rattle.hall_parts.specs.EventParts.{IsAtAction, MayPause}
 use Rattle.hall_parts.specs.Leaving.{IsLeft, with_end}
@@ -19,22 +19,14 @@ use Rattle.hall_parts.proofs.Leaving.{owners_may_leave, writers_may_be_answered,
 use Rattle.hall_parts.proofs.Pauses.{yields_do}
 use Rattle.hall_parts.proofs.Staying.{all_at, given_up_stays_sound}
 use Rattle.hall_parts.proofs.Taken.{owner_of}
-use Rattle.hall_slots.specs.Keys.{table_of, quota_of}
 use Rattle.hall_slots.specs.ListCalls.{end_kept, ShowsUnowned, HasNoOwner, KeepsRest}
 use Rattle.hall_slots.specs.Passed.Period.{Period as OpenPeriod}
 use Rattle.hall_slots.specs.Passed.ThreadFramesPoints.{IsAtPoint}
-use Rattle.hall_slots.specs.Takes.{HallSeat}
-use Rattle.hall_slots.specs.declared.key.HallKey.{HallKey}
-use Rattle.hall_slots.specs.declared.lane_slot.LaneSlot.{LaneSlot}
-use Rattle.hall_slots.specs.declared.list_slot.ListSlot.{ListSlot}
-use Rattle.hall_slots.specs.declared.pool_slot.PoolSlot.{PoolSlot}
-use Rattle.hall_slots.specs.declared.seat_note.SeatNote.{SeatNote}
 use Rattle.hall_slots.proofs.Halts.{kept_before, finished_before}
 use Rattle.hall_actions.proofs.Notable.{nothing_may_be_noted}
 use Rattle.hall_actions.proofs.Returned.{goes_more, same_pool, stay}
 use Rattle.hall_actions.specs.Pauses.{CanClose}
 use Rattle.hall_actions.proofs.Roomier.{has_from, rest_from, shows_unowned_from, unowned_from}
-use Rattle.thread_frames.specs.declared.thread.Thread.{Thread}
 
 -- the list in which the deque has no owner, without the worker of the seat
 pub leaves_may : (key : HallKey) (seat : HallSeat) (deque : DequeId) → MayPause seat deque → record_words ≤ quota_of key

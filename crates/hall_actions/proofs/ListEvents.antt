@@ -3,18 +3,12 @@ use Rattle.std.proofs.Common.{◌≡◌, ◌≢◌, ℕ, ◌≤◌, List, ◌∷
 use Rattle.std.proofs.lemmas.List.Sorted.{IsPermutation-cons, IsPermutation-trans}
 use Rattle.std.specs.List.Sorted.{IsPermutation}
 use Rattle.std.specs.Prelude.{None}
-use Rattle.dag_order.specs.declared.thread_id.ThreadId.{ThreadId}
-use Rattle.deque_list.specs.declared.deque_id.DequeId.{DequeId}
+use Rattle.hall_parts.specs.HallNames.{DequeId, Each, list_shown, LaneSlot, ListSlot, PoolSlot, HallKey, quota_of, HallSeat, ThreadId, ListShown, Ended}
+use Rattle.hall_parts.specs.HallNames.{Thread, Kept, kept_under}
 use Rattle.depth_first_list.specs.Actions.{record_words}
-use Rattle.hall_slots.specs.Passed.Lists.{Each}
-use Rattle.hall_slots.specs.Passed.Values.{ListShown}
-use Rattle.hall_slots.specs.Shown.{list_shown}
 use Rattle.thread_frames.specs.Kept.{IsUnderItsId, WaitsUnder}
 use Rattle.thread_frames.specs.Passed.Parts as shown
 use Rattle.thread_frames.proofs.Found.{none_found}
-use Rattle.thread_frames.specs.declared.ended.Ended.{Ended}
-use Rattle.thread_frames.specs.declared.thread.Thread.{Thread}
-use Rattle.thread_map.specs.Kept.{Kept, kept_under}
 use Rattle.hall_parts.specs.EventParts.{IsAtAction, MayGoOn, MayPause, IsUnawaited}
 use Rattle.hall_parts.specs.Puts.{note_of, MayPutListAndLane}
 use Rattle.hall_parts.specs.Rooms.{HasMoreBooks, HasMoreToLeave, HasMoreToWait}
@@ -31,12 +25,6 @@ use Rattle.hall_parts.proofs.Staying.{given_up_stays_sound}
 use Rattle.hall_parts.proofs.Taken.{unkept}
 use Rattle.hall_slots.specs.Passed.Period.{Period as OpenPeriod}
 use Rattle.hall_slots.specs.ListCalls.{ShowsUnowned, HasNoOwner, KeepsRest}
-use Rattle.hall_slots.specs.declared.lane_slot.LaneSlot.{LaneSlot}
-use Rattle.hall_slots.specs.declared.list_slot.ListSlot.{ListSlot}
-use Rattle.hall_slots.specs.declared.pool_slot.PoolSlot.{PoolSlot}
-use Rattle.hall_slots.specs.declared.key.HallKey.{HallKey}
-use Rattle.hall_slots.specs.Keys.{quota_of}
-use Rattle.hall_slots.specs.Takes.{HallSeat}
 use Rattle.hall_actions.specs.Ends.{CanLeave}
 use Rattle.hall_actions.specs.Pauses.{CanClose, CanWait}
 use Rattle.hall_actions.proofs.Roomier.{has_from, rest_from, shows_unowned_from, unowned_from}

@@ -4,31 +4,21 @@ use Rattle.std.proofs.Math.Logic.{∥∥₁_elim}
 use Rattle.std.specs.Prelude.{Some}
 use mathlib.Core.Option.{some}
 use lib.ListN.{get_elem?}
-use Rattle.deque_list.specs.declared.deque_id.DequeId.{DequeId}
+use Rattle.hall_parts.specs.HallNames.{DequeId, LaneSlot, ListSlot, HallKey, table_of, quota_of, terms_of, value_of, view_of, HallSeat, MeetsLaw, Terms}
+use Rattle.hall_parts.specs.HallNames.{machine_of, Setting, IsAtPoint, HasAs, notes, ListIsSound, thread_that_waits}
 use Rattle.deque_list.proofs.DequeLaws.{same_id}
-use Rattle.hall_slots.specs.Passed.Terms.{Terms, machine_of}
-use Rattle.hall_slots.specs.Passed.States.{Setting}
 use Rattle.hall_slots.specs.Passed.Lists.{Among, Each}
 use Rattle.hall_slots.proofs.Passed.DequeMachineLists.{among_here}
 use Rattle.hall_slots.specs.Passed.Parts.{Has}
 use Rattle.thread_frames.specs.Kept.{waiting_shown, result_kept}
-use Rattle.thread_frames.specs.Points.{IsAtPoint}
 use Rattle.hall_parts.specs.Passed.Settings.{IsSettingOf}
-use Rattle.turn_table.specs.Notes.{HasAs, notes}
 use Rattle.turn_table.proofs.NoteLaws.{notes_at}
 use Rattle.turn_table.proofs.Standing.{shown_as}
 use Rattle.hall_machine.specs.Values.{Hall, ListShown}
 use Rattle.hall_machine.specs.State.{HallLaw}
 use Rattle.hall_machine.specs.Points.{AreAtPoints}
-use Rattle.hall_slots.specs.declared.lane_slot.LaneSlot.{LaneSlot}
-use Rattle.hall_slots.specs.declared.list_slot.ListSlot.{ListSlot}
 use Rattle.hall_slots.specs.declared.slot.Slot.TheVariants as slots
-use Rattle.hall_slots.specs.declared.key.HallKey.{HallKey}
-use Rattle.hall_slots.specs.Keys.{table_of, quota_of, terms_of}
-use Rattle.hall_slots.specs.Shown.{value_of, view_of}
-use Rattle.hall_slots.specs.Sound.{ListIsSound, thread_that_waits}
 use Rattle.hall_slots.specs.Steps.{hall_shown}
-use Rattle.hall_slots.specs.Takes.{HallSeat, MeetsLaw}
 use Rattle.hall_slots.proofs.Reading.{get_of_at}
 use Rattle.hall_slots.proofs.Written.{list_at}
 use Rattle.hall_parts.proofs.Owned.{is_listed, is_its, is_open}

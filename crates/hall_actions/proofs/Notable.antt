@@ -4,23 +4,19 @@ use Rattle.std.proofs.Math.Logic.{∥∥₁_map}
 use Rattle.std.proofs.lemmas.Option.{none-some}
 use Rattle.std.specs.Option.{option_map}
 use Rattle.std.specs.Prelude.{None, Some, pos, slice_get, slice_set}
-use Rattle.deque_list.specs.declared.deque_id.DequeId.{DequeId}
+use Rattle.hall_parts.specs.HallNames.{DequeId, table_of, quota_of, terms_of, list_shown, pool_shown, lane_shown, stop_shown, view_of, HallSeat, HallKey}
+use Rattle.hall_parts.specs.HallNames.{LaneSlot, ListSlot, PoolSlot, SeatNote, Terms, machine_of, Setting, IsOfTheList, deed_of, Next, Thread}
 use Rattle.hall_slots.specs.Passed.Play as play
 use Rattle.hall_slots.specs.Passed.Play.{words_taken}
-use Rattle.hall_slots.specs.Passed.Terms.{Terms, machine_of}
 use Rattle.depth_first_list.specs.Actions.{record_words}
 use Rattle.depth_first_list.specs.Facts.{action_at, words_at}
 use Rattle.hall_slots.proofs.Passed.Built.{whole_is_depth_first}
 use Rattle.hall_slots.specs.Passed.Run.{list_of}
-use Rattle.hall_slots.specs.Passed.States.{Setting}
 use Rattle.hall_slots.specs.Passed.Books.{charge_at}
 use Rattle.open_periods.specs.Periods.{Period}
 use Rattle.open_periods.specs.declared.period.Period.{Period as OpenPeriod}
 use Rattle.hall_parts.specs.Passed.Stop.{Stop}
 use Rattle.hall_parts.specs.Passed.StopVariants.{ArenaFull, OutOfMemory}
-use Rattle.thread_frames.specs.Actions.{IsOfTheList, deed_of}
-use Rattle.thread_frames.specs.declared.next.Next.{Next}
-use Rattle.thread_frames.specs.declared.thread.Thread.{Thread}
 use Rattle.hall_parts.specs.Passed.Settings.{IsSettingOf}
 use Rattle.hall_parts.specs.Here.{ShowsOwn}
 use Rattle.hall_machine.specs.Seats.{finding}
@@ -34,15 +30,7 @@ use Rattle.hall_parts.specs.EventParts.{IsAtAction, MayPause}
 use Rattle.hall_parts.proofs.Pauses.{next_of_it}
 use Rattle.hall_parts.proofs.Quiet.{same_hall, statements_may_come, wants_of_memory_may_come}
 use Rattle.hall_parts.proofs.Working.{some, work, here, own, period_was}
-use Rattle.hall_slots.specs.Keys.{table_of, quota_of, terms_of}
-use Rattle.hall_slots.specs.Shown.{list_shown, pool_shown, lane_shown, stop_shown, view_of}
 use Rattle.hall_slots.specs.Steps.{IsRunning}
-use Rattle.hall_slots.specs.Takes.{HallSeat}
-use Rattle.hall_slots.specs.declared.key.HallKey.{HallKey}
-use Rattle.hall_slots.specs.declared.lane_slot.LaneSlot.{LaneSlot}
-use Rattle.hall_slots.specs.declared.list_slot.ListSlot.{ListSlot}
-use Rattle.hall_slots.specs.declared.pool_slot.PoolSlot.{PoolSlot}
-use Rattle.hall_slots.specs.declared.seat_note.SeatNote.{SeatNote}
 use Rattle.hall_parts.specs.Writes.{parts as three, hall_with}
 use Rattle.hall_actions.specs.Causes.{IsTooLarge, NothingMayBeNoted, MemoryMayBeNoted, FullArenasMayBeNoted}
 

@@ -1,9 +1,8 @@
 -- The place of a deque in a list.
 use Rattle.std.proofs.Common.{◌≡◌, ◌≢◌, ◌⊎◌, List, [], ◌∷◌, ◌++◌, inl, inr, refl, ap}
 use Rattle.std.proofs.lemmas.Bool.{cases_eq}
-use Rattle.deque_list.specs.declared.deque_id.DequeId.{DequeId}
+use Rattle.hall_parts.specs.HallNames.{DequeId, Each}
 use Rattle.deque_list.specs.declared.place.Place.{Place}
-use Rattle.hall_slots.specs.Passed.Lists.{Each}
 
 -- a place with this id, and what is left and right of it
 pub record IsAmong (places : List Place) (id : DequeId) : Type 0 where

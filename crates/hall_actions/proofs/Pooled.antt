@@ -1,25 +1,20 @@
 -- What an action does with the pool, whichever it is, may be put back.
 use Rattle.std.proofs.Common.{◌≡◌, ◌≢◌, ℕ, ◌≤◌, List, [], ◌∷◌, refl, sym, ap, ◌∙◌, subst, arith}
 use Rattle.std.specs.Prelude.{Some}
-use Rattle.dag_order.specs.declared.action_id.ActionId.{ActionId}
-use Rattle.deque_list.specs.declared.deque_id.DequeId.{DequeId}
+use Rattle.hall_parts.specs.HallNames.{DequeId, list_shown, pool_shown, HallKey, ActionId, Next, Thread}
 use Rattle.deque_list.specs.Lanes.{LaneView}
 use Rattle.depth_first_list.specs.Actions.{record_words}
 use Rattle.hall_parts.specs.Here.{HasRoomHere, TakesWords}
 use Rattle.hall_parts.specs.Passed.ThreadActionsResults.{FirstAwaits}
 use Rattle.hall_slots.specs.Passed.Period.{Period as OpenPeriod}
-use Rattle.hall_slots.specs.Shown.{list_shown, pool_shown}
 use Rattle.hall_slots.specs.declared.event.Event.TheVariants.{Did}
-use Rattle.hall_slots.specs.declared.key.HallKey.{HallKey}
 use Rattle.hall_parts.specs.EventParts.{IsAtAction, MayDoNext}
 use Rattle.hall_parts.specs.Writes.{Parts}
 use Rattle.hall_parts.specs.Writing.{DoesEvent}
 use Rattle.hall_parts.specs.declared.noting.Noting.TheVariants.{Does}
 use Rattle.hall_parts.proofs.Lanes.{actions_do, joins_do, ends_above_do}
 use Rattle.std.proofs.Math.Logic.{∥∥₁_map}
-use Rattle.thread_frames.specs.declared.next.Next.{Next}
 use Rattle.thread_frames.specs.declared.next.Next.TheVariants.{Fork, Join, Alloc, Release, Dummy, Fault, End}
-use Rattle.thread_frames.specs.declared.thread.Thread.{Thread}
 use Rattle.hall_actions.specs.WithPool.{DoesWithPool, IsWithPool}
 
 -- there is memory for fewer threads too

@@ -1,22 +1,11 @@
 -- What an action did to the pool and the lane may be put back.
 use Rattle.std.proofs.Common.{◌≡◌, ℕ, ◌∷◌, List, sym, subst}
 use Rattle.std.specs.Prelude.{Some}
-use Rattle.dag_order.specs.declared.action_id.ActionId.{ActionId}
-use Rattle.deque_list.specs.declared.deque_id.DequeId.{DequeId}
+use Rattle.hall_parts.specs.HallNames.{DequeId, Each, LaneSlot, Running, ListSlot, PoolSlot, HallKey, table_of, quota_of, HallSeat, ActionId, IsAtPoint}
+use Rattle.hall_parts.specs.HallNames.{Thread, PoolIsSound}
 use Rattle.deque_list.specs.Lanes.{LaneView}
-use Rattle.hall_slots.specs.Passed.Lists.{Each}
-use Rattle.thread_frames.specs.Points.{IsAtPoint}
-use Rattle.thread_frames.specs.declared.thread.Thread.{Thread}
 use Rattle.hall_parts.specs.Passed.Acts.{StaysAtPoint}
 use Rattle.hall_slots.specs.declared.event.Event.TheVariants.{Did}
-use Rattle.hall_slots.specs.declared.lane_slot.LaneSlot.{LaneSlot}
-use Rattle.hall_slots.specs.declared.lane_slot.Running.{Running}
-use Rattle.hall_slots.specs.declared.list_slot.ListSlot.{ListSlot}
-use Rattle.hall_slots.specs.declared.pool_slot.PoolSlot.{PoolSlot}
-use Rattle.hall_slots.specs.declared.key.HallKey.{HallKey}
-use Rattle.hall_slots.specs.Keys.{table_of, quota_of}
-use Rattle.hall_slots.specs.Sound.{PoolIsSound}
-use Rattle.hall_slots.specs.Takes.{HallSeat}
 use Rattle.hall_parts.specs.Writes.{parts, told_note}
 use Rattle.hall_parts.specs.EventParts.{MayAct}
 use Rattle.hall_parts.specs.Puts.{MayPutPoolAndLane}

@@ -5,33 +5,20 @@ use Rattle.std.specs.Option.{option_map}
 use Rattle.std.specs.Prelude.{Option, None, Some, Bool, is_some}
 use Rattle.language_limits.specs.declared.TheConstants.{GREATEST_COUNT}
 use Rattle.deque_list.specs.Lanes.{LaneView}
-use Rattle.deque_list.specs.declared.deque_id.DequeId.{DequeId}
+use Rattle.hall_parts.specs.HallNames.{DequeId, Each, table_of, quota_of, lane_shown, running_shown, HallSeat, HallKey, LaneSlot, Running, IsStill}
+use Rattle.hall_parts.specs.HallNames.{IsOfTheList, JoinsNewest, IsAtPoint, thread_shown, children_of, done_of, next_of, Next, Thread, Setting}
 use Rattle.depth_first_list.specs.QuotaWords.{quota_words}
 use Rattle.depth_first_list.specs.declared.quota.Quota.{Quota}
-use Rattle.hall_slots.specs.Passed.Lists.{Each}
 use Rattle.hall_slots.proofs.Passed.DequeMachineLists.{same_head}
 use Rattle.node_table.specs.Codes.{code_shown}
 use Rattle.node_table.specs.declared.node_table.NodeTable.{NodeTable}
 use Rattle.open_periods.specs.Periods.{Period, open_shown}
 use Rattle.hall_parts.specs.Passed.StopVariants.{OutOfMemory}
-use Rattle.thread_frames.specs.Actions.{IsStill, IsOfTheList, JoinsNewest}
-use Rattle.thread_frames.specs.Points.{IsAtPoint}
-use Rattle.thread_frames.specs.Shown.{thread_shown}
-use Rattle.thread_frames.specs.Views.{children_of, done_of, next_of}
-use Rattle.thread_frames.specs.declared.next.Next.{Next}
-use Rattle.thread_frames.specs.declared.thread.Thread.{Thread}
 use Rattle.hall_parts.specs.Passed.Settings.{IsSettingOf}
-use Rattle.hall_slots.specs.Passed.States.{Setting}
 use Rattle.hall_parts.specs.Here.{HasRoomIn}
 use Rattle.hall_parts.specs.Own.{IsShortThere, IsStillThere}
 use Rattle.hall_parts.specs.EventParts.{IsAtAction}
 use Rattle.hall_parts.proofs.Working.{still_shows}
-use Rattle.hall_slots.specs.Keys.{table_of, quota_of}
-use Rattle.hall_slots.specs.Shown.{lane_shown, running_shown}
-use Rattle.hall_slots.specs.Takes.{HallSeat}
-use Rattle.hall_slots.specs.declared.key.HallKey.{HallKey}
-use Rattle.hall_slots.specs.declared.lane_slot.LaneSlot.{LaneSlot}
-use Rattle.hall_slots.specs.declared.lane_slot.Running.{Running}
 use Rattle.hall_actions.specs.Advancing.{IsAtNext, IsReadable, IsRunBy}
 use Rattle.hall_actions.specs.Stepping.{GoesOn}
 use Rattle.hall_actions.specs.declared.at_next.AtNext.{AtNext}

@@ -7,25 +7,19 @@ use Rattle.std.specs.Prelude.{Option, None, Some, slice_get}
 use denote.Struct.Props.{props}
 use mathlib.Core.Option.{some}
 use lib.ListN.{get_elem?}
-use Rattle.deque_list.specs.declared.deque_id.DequeId.{DequeId}
-use Rattle.hall_slots.specs.Passed.Terms.{Terms, machine_of}
+use Rattle.hall_parts.specs.HallNames.{DequeId, Each, LaneSlot, Running, ListSlot, PoolSlot, Slot, value_of, view_of, lane_shown, running_shown, HallKey}
+use Rattle.hall_parts.specs.HallNames.{table_of, quota_of, terms_of, IsKey, HallSeat, MeetsLaw, Terms, machine_of, Setting, IsAtPoint, done_of}
+use Rattle.hall_parts.specs.HallNames.{thread_words, Thread, thread_shown, HasAs, notes, threads_in, threads_of, PoolIsSound}
 use Rattle.hall_slots.proofs.Passed.Built.{whole_is_depth_first}
-use Rattle.hall_slots.specs.Passed.States.{Setting}
-use Rattle.hall_slots.specs.Passed.Lists.{Each}
 use Rattle.hall_slots.proofs.Passed.DequeMachineLists.{cons_is_not_nil, same_head}
 use Rattle.moment_shown.specs.Parts as parts
 use Rattle.node_table.specs.Table.{Table}
 use Rattle.open_periods.specs.Periods.{Period}
 use Rattle.hall_parts.specs.Passed.StopVariants.{OutOfMemory}
-use Rattle.thread_frames.specs.Points.{IsAtPoint}
-use Rattle.thread_frames.specs.Views.{done_of, thread_words}
-use Rattle.thread_frames.specs.declared.thread.Thread.{Thread}
-use Rattle.thread_frames.specs.Shown.{thread_shown}
 use Rattle.thread_frames.proofs.Points.{point_one}
 use Rattle.hall_parts.specs.Passed.Settings.{IsSettingOf}
 use Rattle.turn_table.specs.Hands.{Shows}
 use Rattle.turn_table.specs.Law.{Stands}
-use Rattle.turn_table.specs.Notes.{HasAs, notes}
 use Rattle.turn_table.proofs.NoteLaws.{notes_at}
 use Rattle.turn_table.proofs.Standing.{shown_as}
 use Rattle.hall_machine.specs.Values.{Hall, ListShown, LaneShown, PoolShown, lane_at}
@@ -35,19 +29,9 @@ use Rattle.hall_machine.specs.Crew.{SeatStands}
 use Rattle.hall_machine.specs.Points.{IsExcused, LaneAtPoints, AreAtPoints}
 use Rattle.hall_machine.specs.State.{HallLaw}
 use Rattle.hall_interleavings.proofs.Owning.{all_in_lane}
-use Rattle.hall_slots.specs.declared.lane_slot.LaneSlot.{LaneSlot}
-use Rattle.hall_slots.specs.declared.lane_slot.Running.{Running}
-use Rattle.hall_slots.specs.declared.list_slot.ListSlot.{ListSlot}
-use Rattle.hall_slots.specs.declared.pool_slot.PoolSlot.{PoolSlot}
-use Rattle.hall_slots.specs.declared.slot.Slot.{Slot}
 use Rattle.hall_slots.specs.declared.slot.Slot.TheVariants as slots
-use Rattle.hall_slots.specs.Shown.{value_of, view_of, lane_shown, running_shown}
-use Rattle.hall_slots.specs.declared.key.HallKey.{HallKey}
-use Rattle.hall_slots.specs.Keys.{table_of, quota_of, terms_of, IsKey}
 use Rattle.hall_slots.specs.Law.{HallHolds, joined_note}
-use Rattle.hall_slots.specs.Sound.{threads_in, threads_of, PoolIsSound}
 use Rattle.hall_slots.specs.Steps.{hall_shown}
-use Rattle.hall_slots.specs.Takes.{HallSeat, MeetsLaw}
 use Rattle.hall_slots.proofs.Keeping.{Whole}
 use Rattle.hall_slots.proofs.Lone.{noted_at}
 use Rattle.hall_slots.proofs.Reading.{get_of_at}

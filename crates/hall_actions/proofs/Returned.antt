@@ -4,14 +4,12 @@ use Rattle.std.proofs.Math.Logic.{∥∥₁_map}
 use Rattle.std.proofs.lemmas.List.Sorted.{IsPermutation-map, IsPermutation-refl}
 use Rattle.std.specs.Prelude.{pos, slice_set}
 use Rattle.block_arena.specs.Region.{Region}
-use Rattle.deque_list.specs.declared.deque_id.DequeId.{DequeId}
+use Rattle.hall_parts.specs.HallNames.{DequeId, table_of, quota_of, terms_of, lane_shown, list_shown, view_of, HallSeat, HallKey, LaneSlot, ListSlot}
+use Rattle.hall_parts.specs.HallNames.{PoolSlot, SeatNote, Terms, machine_of, Setting, IsAtPoint, IsResult, thread_that_waits, PoolIsSound}
 use Rattle.deque_list.specs.Orders.{OrderView}
-use Rattle.hall_slots.specs.Passed.Terms.{Terms, machine_of}
-use Rattle.hall_slots.specs.Passed.States.{Setting}
 use Rattle.moment_shown.specs.Parts as shown
 use Rattle.space_ledger.specs.Sums.{total_change}
 use Rattle.thread_frames.specs.Kept.{WaitsUnder, IsUnderItsId, waiting_shown, result_kept}
-use Rattle.thread_frames.specs.Points.{IsAtPoint, IsResult}
 use Rattle.hall_machine.specs.State.{RunningState}
 use Rattle.hall_machine.specs.Values.{Hall}
 use Rattle.hall_machine.specs.Views.{View}
@@ -22,16 +20,7 @@ use Rattle.hall_parts.proofs.Staying.{all_at, each_moved}
 use Rattle.hall_parts.specs.Puts.{note_of, MayPutPoolAndLane, MayPutListAndLane, MayPutAll}
 use Rattle.hall_parts.specs.declared.noting.Noting.{Noting}
 use Rattle.hall_parts.specs.declared.noting.Noting.TheVariants.{Same, Found, Does, Yields, Leaves, Closes, Halts}
-use Rattle.hall_slots.specs.Keys.{table_of, quota_of, terms_of}
-use Rattle.hall_slots.specs.Shown.{lane_shown, list_shown, view_of}
-use Rattle.hall_slots.specs.Sound.{thread_that_waits, PoolIsSound}
 use Rattle.hall_slots.specs.Steps.{IsRunning}
-use Rattle.hall_slots.specs.Takes.{HallSeat}
-use Rattle.hall_slots.specs.declared.key.HallKey.{HallKey}
-use Rattle.hall_slots.specs.declared.lane_slot.LaneSlot.{LaneSlot}
-use Rattle.hall_slots.specs.declared.list_slot.ListSlot.{ListSlot}
-use Rattle.hall_slots.specs.declared.pool_slot.PoolSlot.{PoolSlot}
-use Rattle.hall_slots.specs.declared.seat_note.SeatNote.{SeatNote}
 use Rattle.hall_parts.specs.Writes.{Parts, parts, hall_with, IsShort, MayBecome, StaySound, stays}
 use Rattle.hall_actions.specs.Returning.{MayNote, ReturnsLane, ReturnsPool, ReturnsList, ReturnsAll}
 

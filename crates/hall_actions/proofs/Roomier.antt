@@ -3,26 +3,15 @@ use Rattle.std.proofs.Common.{◌≡◌, ℕ, ◌∷◌, map, sym, ap, ◌∙◌
 use Rattle.std.specs.List.Sorted.{IsPermutation}
 use Rattle.std.proofs.lemmas.List.Sorted.{IsPermutation-map, IsPermutation-trans, IsPermutation-cons}
 use Rattle.std.specs.Prelude.{Option}
-use Rattle.dag_order.specs.declared.action_id.ActionId.{ActionId}
-use Rattle.deque_list.specs.declared.deque_id.DequeId.{DequeId}
+use Rattle.hall_parts.specs.HallNames.{DequeId, list_shown, pool_shown, Running, ListSlot, PoolSlot, ActionId, Hall, ListShown, PoolShown, result_shown}
+use Rattle.hall_parts.specs.HallNames.{Ended, Next, Thread, Kept}
 use Rattle.deque_list.specs.Orders.{OrderView}
 use Rattle.hall_parts.specs.Here.{TakesWords}
 use Rattle.hall_slots.specs.Passed.Parts.{Has}
 use Rattle.hall_parts.specs.ListCalls.{SuspendsThere, LeavesThere, KeepsCrew}
-use Rattle.hall_slots.specs.Passed.Values.{Hall, ListShown}
 use Rattle.hall_slots.specs.Passed.Writing.{IsAtWork}
 use Rattle.hall_slots.specs.ListCalls.{ShowsUnowned, HasNoOwner, IsGone, KeepsRest}
-use Rattle.hall_slots.specs.Shown.{list_shown, pool_shown}
-use Rattle.hall_slots.specs.declared.lane_slot.Running.{Running}
-use Rattle.hall_slots.specs.declared.list_slot.ListSlot.{ListSlot}
-use Rattle.hall_slots.specs.declared.pool_slot.PoolSlot.{PoolSlot}
-use Rattle.hall_slots.specs.Passed.Values.{PoolShown}
 use Rattle.thread_frames.specs.Kept.{waiting_shown, result_kept}
-use Rattle.thread_frames.specs.Shown.{result_shown}
-use Rattle.thread_frames.specs.declared.ended.Ended.{Ended}
-use Rattle.thread_frames.specs.declared.next.Next.{Next}
-use Rattle.thread_frames.specs.declared.thread.Thread.{Thread}
-use Rattle.thread_map.specs.Kept.{Kept}
 use Rattle.hall_parts.specs.Rooms.{KeepsDeques, HasMoreBooks, HasMoreToWait, HasMoreToLeave, IsSamePool}
 use Rattle.hall_parts.proofs.Rooms.{pool_same, shown_with}
 

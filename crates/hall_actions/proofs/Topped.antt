@@ -2,29 +2,18 @@
 use Rattle.std.proofs.Common.{◌≡◌, List, ◌∷◌, map, ap, ◌∙◌}
 use Rattle.std.proofs.Math.Logic.{∥∥₁_elim}
 use Rattle.std.specs.Prelude.{Some}
-use Rattle.deque_list.specs.declared.deque_id.DequeId.{DequeId}
+use Rattle.hall_parts.specs.HallNames.{DequeId, LaneSlot, HallKey, table_of, quota_of, terms_of, value_of, view_of, HallSeat, MeetsLaw, Terms, machine_of}
+use Rattle.hall_parts.specs.HallNames.{Setting, IsOfTheList, thread_shown, Next, Thread, notes}
 use Rattle.hall_slots.specs.Passed.LawfulOrder.{IsLawful}
-use Rattle.hall_slots.specs.Passed.Terms.{Terms, machine_of}
 use Rattle.hall_slots.specs.Passed.Run.{list_of}
-use Rattle.hall_slots.specs.Passed.States.{Setting}
 use Rattle.moment_shown.specs.Events.{Works}
 use Rattle.moment_shown.specs.Standing.{Shows}
-use Rattle.thread_frames.specs.Actions.{IsOfTheList}
-use Rattle.thread_frames.specs.Shown.{thread_shown}
-use Rattle.thread_frames.specs.declared.next.Next.{Next}
-use Rattle.thread_frames.specs.declared.thread.Thread.{Thread}
 use Rattle.hall_parts.specs.Passed.Settings.{IsSettingOf}
-use Rattle.turn_table.specs.Notes.{notes}
 use Rattle.hall_machine.specs.Values.{Hall, LaneShown, parts_of}
 use Rattle.hall_machine.specs.Writing.{IsAtWork, lane_with}
 use Rattle.hall_machine.specs.State.{HallLaw}
 use Rattle.hall_machine.proofs.Own.{works}
-use Rattle.hall_slots.specs.declared.lane_slot.LaneSlot.{LaneSlot}
-use Rattle.hall_slots.specs.declared.key.HallKey.{HallKey}
-use Rattle.hall_slots.specs.Keys.{table_of, quota_of, terms_of}
-use Rattle.hall_slots.specs.Shown.{value_of, view_of}
 use Rattle.hall_slots.specs.Steps.{hall_shown}
-use Rattle.hall_slots.specs.Takes.{HallSeat, MeetsLaw}
 use Rattle.hall_actions.specs.Reads.{HoldsItsLane}
 use Rattle.hall_actions.specs.Lists.{ComesTo}
 use Rattle.hall_actions.proofs.Awaiting.{still_shows}

@@ -2,35 +2,23 @@
 use Rattle.std.specs.Prelude.{◌≡◌, ℕ, ◌+◌, ◌≤◌, ◌<◌, None, Some, List, [], ◌∷◌, ◌++◌, Result, Ok, Err}
 use Rattle.std.specs.Option.{option_map}
 use Rattle.containers.specs.BoundedList.{spare}
-use Rattle.deque_list.specs.declared.deque_id.DequeId.{DequeId}
+use Rattle.hall_parts.specs.HallNames.{DequeId, Each, table_of, quota_of, IsKey, running_shown, HallSeat, IsTaken, IsRefused, HallKey, LaneSlot, SeatNote}
+use Rattle.hall_parts.specs.HallNames.{Slot, JoinsNewest, IsAtPoint, children_of, done_of, next_of, Next, with_hand}
 use Rattle.depth_first_list.specs.Actions.{record_words}
 use Rattle.depth_first_list.specs.declared.quota.Quota.{Quota}
 use Rattle.language_limits.specs.declared.TheConstants.{GREATEST_COUNT, GREATEST_QUOTA}
-use Rattle.hall_slots.specs.Passed.Lists.{Each}
-use Rattle.node_table.specs.declared.node_table.NodeTable.{NodeTable}
+use Rattle.node_table.specs.declared.code.Code.{Code}
 use Rattle.hall_parts.specs.Passed.StopVariants.{OutOfMemory as NoMemory}
-use Rattle.thread_frames.specs.Actions.{JoinsNewest}
-use Rattle.thread_frames.specs.Points.{IsAtPoint}
-use Rattle.thread_frames.specs.Views.{children_of, done_of, next_of}
-use Rattle.thread_frames.specs.declared.next.Next.{Next}
 use Rattle.turn_table.specs.declared.look.Look.{Look}
 use Rattle.turn_table.specs.declared.look.Look.TheVariants.{Took}
-use Rattle.turn_table.specs.Seats.{with_hand}
 use Rattle.hall_parts.specs.Here.{HasRoomHere}
 use Rattle.hall_parts.specs.Puts.{HasPut}
 use Rattle.hall_parts.specs.EventParts.{IsAtAction, IsNext, MayPause}
 use Rattle.hall_parts.specs.Taken.{its_lane}
 use Rattle.hall_actions.specs.Reads.{ReadsLane}
-use Rattle.hall_slots.specs.Keys.{table_of, quota_of, IsKey}
-use Rattle.hall_slots.specs.Shown.{running_shown}
-use Rattle.hall_slots.specs.Takes.{HallSeat, IsTaken, IsRefused}
-use Rattle.hall_slots.specs.declared.key.HallKey.{HallKey}
-use Rattle.hall_slots.specs.declared.lane_slot.LaneSlot.{LaneSlot}
-use Rattle.hall_slots.specs.declared.seat_note.SeatNote.{SeatNote}
-use Rattle.hall_slots.specs.declared.slot.Slot.{Slot}
 use Rattle.hall_slots.specs.declared.slot.Slot.TheVariants as slots
-use Rattle.hall_actions.specs.declared.advancing.AdvanceRefused.{AdvanceRefused}
-use Rattle.hall_actions.specs.declared.advancing.AdvanceRefused.TheVariants.{Busy, OutOfMemory}
+use Rattle.hall_actions.specs.declared.refused.ActRefused.{ActRefused}
+use Rattle.hall_actions.specs.declared.refused.ActRefused.TheVariants.{Busy, Over, Stopped}
 use Rattle.hall_actions.specs.declared.at_next.AtNext.{AtNext}
 use Rattle.hall_actions.specs.declared.memory.SeatMemory.{SeatMemory}
 
@@ -76,10 +64,11 @@ pub record IsReadable (key : HallKey) (seat : HallSeat) (deque : DequeId) (was l
   pub is_key : IsKey key
 
 -- The top thread is before its next action; or the lane went back since memory was wanting.
-abbrev pub RunsOn : HallKey → HallSeat → LaneSlot → (ready : ℕ) → Result (AtNext × Next) AdvanceRefused → HallSeat → Type 0
+abbrev pub RunsOn : HallKey → HallSeat → LaneSlot → (ready : ℕ) → Result (AtNext × Next) ActRefused → HallSeat → Type 0
 RunsOn key before was ready (Ok come) after = (after ≡ before) × IsAtNext key was come.0 come.1 ready
 RunsOn key before was ready (Err (Busy held)) after = ⊥
-RunsOn key before was ready (Err OutOfMemory) after = HasPut before (record before.hand.note { found = Some NoMemory }) [] after
+RunsOn key before was ready (Err (Over end)) after = ⊥
+RunsOn key before was ready (Err (Stopped stop)) after = (stop ≡ NoMemory) × HasPut before (record before.hand.note { found = Some stop }) [] after
 
 -- The seat holds nothing, notes this, and had these answers.
 abbrev pub HasLooked : HallSeat → List (Look Slot) → SeatNote → HallSeat → Type 0
@@ -95,15 +84,17 @@ abbrev pub took_lane : DequeId → LaneSlot → Look Slot
 took_lane deque lane = Took (deque.0 + 2) (slots.Lane lane)
 
 -- The seat holds the lane that it took, and its top thread is there; or it was refused the lane; or memory was wanting, which it notes.
-abbrev pub HasCome : HallKey → HallSeat → DequeId → SeatMemory → Result (AtNext × Next) AdvanceRefused → HallSeat → Type 0
+abbrev pub HasCome : HallKey → HallSeat → DequeId → SeatMemory → Result (AtNext × Next) ActRefused → HallSeat → Type 0
 HasCome key before deque memory (Ok come) after =
     (lane : LaneSlot) × IsTaken before (deque.0 + 2) (slots.Lane lane) after × IsAtNext key lane come.0 come.1 (spare memory.births)
 HasCome key before deque memory (Err (Busy held)) after = IsRefused before (deque.0 + 2) held after
-HasCome key before deque memory (Err OutOfMemory) after =
-    (lane : LaneSlot) × HasLooked before (took_lane deque lane ∷ []) (record before.hand.note { found = Some NoMemory }) after
+HasCome key before deque memory (Err (Over end)) after = ⊥
+HasCome key before deque memory (Err (Stopped stop)) after = (stop ≡ NoMemory)
+    × ((lane : LaneSlot) × HasLooked before (took_lane deque lane ∷ []) (record before.hand.note { found = Some stop }) after)
 
--- the lane was not refused to it
-abbrev pub IsNotBusy : Result (AtNext × Next) AdvanceRefused → Type 0
-IsNotBusy (Ok come) = Unit {0}
+-- no slot was refused to it
+abbrev pub IsNotBusy : {T : Type 0} → Result T ActRefused → Type 0
+IsNotBusy (Ok value) = Unit {0}
 IsNotBusy (Err (Busy held)) = ⊥
-IsNotBusy (Err OutOfMemory) = Unit {0}
+IsNotBusy (Err (Over end)) = Unit {0}
+IsNotBusy (Err (Stopped stop)) = Unit {0}

@@ -1,16 +1,10 @@
 -- How an owner is answered the end that is kept in the list.
 use Rattle.std.specs.Prelude.{◌≡◌, ◌<◌, Some}
-use Rattle.deque_list.specs.declared.deque_id.DequeId.{DequeId}
+use Rattle.hall_parts.specs.HallNames.{DequeId, HallSeat, HallKey, LaneSlot, ListSlot, HasAs, with_hand}
 use Rattle.hall_parts.specs.Passed.RunEnd.{RunEnd}
 use Rattle.turn_table.specs.Hands.{gave}
-use Rattle.turn_table.specs.Notes.{HasAs}
-use Rattle.turn_table.specs.Seats.{with_hand}
 use Rattle.turn_table.specs.Backs.{unchanged}
 use Rattle.hall_slots.specs.Lists.{answered_note}
-use Rattle.hall_slots.specs.Takes.{HallSeat}
-use Rattle.hall_slots.specs.declared.key.HallKey.{HallKey}
-use Rattle.hall_slots.specs.declared.lane_slot.LaneSlot.{LaneSlot}
-use Rattle.hall_slots.specs.declared.list_slot.ListSlot.{ListSlot}
 use Rattle.hall_slots.specs.declared.slot.Slot.TheVariants as slots
 use Rattle.hall_parts.specs.Taken.{list_and_lane}
 use Rattle.hall_actions.specs.Returning.{ReturnsLane}

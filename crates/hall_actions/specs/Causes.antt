@@ -1,26 +1,16 @@
 -- What an owner may note if no event comes: nothing new, or a stop that has its cause.
 use Rattle.std.specs.Prelude.{◌≡◌, ℕ, ◌+◌, ◌<◌, ◌≤◌, None, List}
-use Rattle.deque_list.specs.declared.deque_id.DequeId.{DequeId}
+use Rattle.hall_parts.specs.HallNames.{DequeId, table_of, quota_of, HallSeat, HallKey, LaneSlot, ListSlot, PoolSlot, Setting, IsOfTheList, Next, Thread}
 use Rattle.hall_slots.specs.Passed.Play.{words_taken}
 use Rattle.depth_first_list.specs.Actions.{record_words}
 use Rattle.depth_first_list.specs.Facts.{action_at, words_at}
 use Rattle.hall_slots.specs.Passed.Run.{list_of}
-use Rattle.hall_slots.specs.Passed.States.{Setting}
 use Rattle.hall_slots.specs.Passed.Books.{charge_at}
 use Rattle.open_periods.specs.declared.period.Period.{Period as OpenPeriod}
 use Rattle.hall_parts.specs.Passed.StopVariants.{ArenaFull, OutOfMemory}
-use Rattle.thread_frames.specs.Actions.{IsOfTheList}
-use Rattle.thread_frames.specs.declared.next.Next.{Next}
-use Rattle.thread_frames.specs.declared.thread.Thread.{Thread}
 use Rattle.hall_parts.specs.Passed.Settings.{IsSettingOf}
 use Rattle.hall_parts.specs.EventParts.{IsAtAction, MayPause}
 use Rattle.hall_parts.specs.declared.noting.Noting.TheVariants.{Same, Found}
-use Rattle.hall_slots.specs.Keys.{table_of, quota_of}
-use Rattle.hall_slots.specs.Takes.{HallSeat}
-use Rattle.hall_slots.specs.declared.key.HallKey.{HallKey}
-use Rattle.hall_slots.specs.declared.lane_slot.LaneSlot.{LaneSlot}
-use Rattle.hall_slots.specs.declared.list_slot.ListSlot.{ListSlot}
-use Rattle.hall_slots.specs.declared.pool_slot.PoolSlot.{PoolSlot}
 use Rattle.hall_parts.specs.Writes.{Parts, parts}
 use Rattle.hall_actions.specs.Returning.{MayNote}
 

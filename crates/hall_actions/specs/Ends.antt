@@ -1,15 +1,8 @@
 -- What an owner's call has in its hands when its top thread ends.
 use Rattle.std.specs.Prelude.{◌≡◌, ◌≤◌, None, Some, [], ◌∷◌}
-use Rattle.dag_order.specs.declared.thread_id.ThreadId.{ThreadId}
-use Rattle.hall_slots.specs.Passed.Lists.{Each}
-use Rattle.thread_map.specs.Kept.{kept_under}
+use Rattle.hall_parts.specs.HallNames.{Each, ListSlot, HallKey, table_of, quota_of, ThreadId, kept_under, IsAtPoint, Thread}
 use Rattle.thread_frames.specs.Kept.{WaitsUnder}
-use Rattle.thread_frames.specs.Points.{IsAtPoint}
-use Rattle.thread_frames.specs.declared.thread.Thread.{Thread}
 use Rattle.hall_parts.specs.Passed.ThreadActionsResults.{FirstAwaits}
-use Rattle.hall_slots.specs.declared.list_slot.ListSlot.{ListSlot}
-use Rattle.hall_slots.specs.declared.key.HallKey.{HallKey}
-use Rattle.hall_slots.specs.Keys.{table_of, quota_of}
 
 -- There is memory in the list for a result, none is kept under this id, and nobody waits under it.
 pub record CanLeave (list : ListSlot) (id : ThreadId) : Type 0 where

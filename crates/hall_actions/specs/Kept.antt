@@ -1,16 +1,8 @@
 -- What an owner's call has in its hands when it joins a child whose result is in the list.
 use Rattle.std.specs.Prelude.{◌≡◌, Some}
-use Rattle.dag_order.specs.declared.thread_id.ThreadId.{ThreadId}
-use Rattle.thread_frames.specs.Children.{IsAwaited, IsOnlyNewest}
-use Rattle.thread_frames.specs.Points.{IsResult}
-use Rattle.thread_frames.specs.Views.{children_of, label_of, next_of}
-use Rattle.thread_frames.specs.declared.ended.Ended.{Ended}
 use Rattle.thread_frames.specs.declared.next.Next.TheVariants as nexts
-use Rattle.thread_frames.specs.declared.thread.Thread.{Thread}
-use Rattle.thread_map.specs.Kept.{kept_under}
-use Rattle.hall_slots.specs.declared.list_slot.ListSlot.{ListSlot}
-use Rattle.hall_slots.specs.declared.key.HallKey.{HallKey}
-use Rattle.hall_slots.specs.Keys.{table_of, quota_of}
+use Rattle.hall_parts.specs.HallNames.{ListSlot, HallKey, table_of, quota_of, ThreadId, IsAwaited, IsOnlyNewest, IsResult, children_of, label_of, next_of}
+use Rattle.hall_parts.specs.HallNames.{Ended, Thread, kept_under}
 
 -- The thread is before the Join of this child, its newest open one, and no other open child has its id. Its result is in the list, under its
 -- id, and is the one that the thread waits for.

@@ -2,37 +2,21 @@
 use Rattle.std.specs.Prelude.{◌≡◌, ◌≢◌, ℕ, ◌≤◌, ◌<◌, false, None, Some, List, [], ◌∷◌, length}
 use Rattle.dag_order.specs.Births.{root}
 use Rattle.dag_order.specs.declared.finish.Finish.{Finish}
-use Rattle.dag_order.specs.declared.thread_id.ThreadId.{ThreadId}
-use Rattle.deque_list.specs.declared.deque_id.DequeId.{DequeId}
+use Rattle.hall_parts.specs.HallNames.{DequeId, LaneSlot, ListSlot, PoolSlot, HallKey, table_of, quota_of, HallSeat, MeetsLaw, ThreadId, Setting, IsStill}
+use Rattle.hall_parts.specs.HallNames.{IsOfTheList, JoinsNewest, deed_of, is_there, IsAwaited, IsOnlyNewest, is_delivered, IsAtPoint, IsResult}
+use Rattle.hall_parts.specs.HallNames.{thread_shown, children_of, held_by, join_words_of, label_of, newest, next_of, Ended, Next, Thread, kept_under, HasAs}
+use Rattle.hall_parts.specs.HallNames.{ListIsSound}
 use Rattle.depth_first_list.specs.Actions.{joins}
-use Rattle.hall_slots.specs.Passed.States.{Setting}
 use Rattle.hall_slots.specs.Passed.Parts.{Has}
 use Rattle.moment_shown.specs.Parts as shown
 use Rattle.hall_parts.specs.Passed.RunEndVariants.{Finished}
 use Rattle.thread_actions.specs.Results.{FirstAwaits}
-use Rattle.thread_frames.specs.Actions.{IsStill, IsOfTheList, JoinsNewest, deed_of, is_there}
-use Rattle.thread_frames.specs.Children.{IsAwaited, IsOnlyNewest, is_delivered}
 use Rattle.thread_frames.specs.Kept.{WaitsUnder}
-use Rattle.thread_frames.specs.Points.{IsAtPoint, IsResult}
-use Rattle.thread_frames.specs.Shown.{thread_shown}
-use Rattle.thread_frames.specs.Views.{children_of, held_by, join_words_of, label_of, newest, next_of}
-use Rattle.thread_frames.specs.declared.ended.Ended.{Ended}
-use Rattle.thread_frames.specs.declared.next.Next.{Next}
 use Rattle.thread_frames.specs.declared.next.Next.TheVariants.{Fork, Join, Alloc, Release, Dummy, Fault, End}
-use Rattle.thread_frames.specs.declared.thread.Thread.{Thread}
-use Rattle.thread_map.specs.Kept.{kept_under}
 use Rattle.hall_parts.specs.Passed.Points.{words_at_end}
 use Rattle.hall_parts.specs.Passed.Joins.{released}
 use Rattle.hall_parts.specs.Passed.Settings.{IsSettingOf}
-use Rattle.turn_table.specs.Notes.{HasAs}
-use Rattle.hall_slots.specs.declared.lane_slot.LaneSlot.{LaneSlot}
-use Rattle.hall_slots.specs.declared.list_slot.ListSlot.{ListSlot}
-use Rattle.hall_slots.specs.declared.pool_slot.PoolSlot.{PoolSlot}
 use Rattle.hall_slots.specs.declared.slot.Slot.TheVariants as slots
-use Rattle.hall_slots.specs.declared.key.HallKey.{HallKey}
-use Rattle.hall_slots.specs.Keys.{table_of, quota_of}
-use Rattle.hall_slots.specs.Sound.{ListIsSound}
-use Rattle.hall_slots.specs.Takes.{HallSeat, MeetsLaw}
 use Rattle.hall_actions.specs.Reads.{HoldsItsLane}
 
 -- The top thread of the lane has come to this action without doing any, and these are under it. For each program that the key may be of this is

@@ -1,5 +1,6 @@
 -- What callers need of what this crate stands on.
 pub use Rattle.hall_parts.specs.EventParts as EventParts
+pub use Rattle.hall_parts.specs.HallNames as HallNames
 pub use Rattle.hall_parts.specs.Leaving as Leaving
 pub use Rattle.hall_parts.specs.Own as Own
 pub use Rattle.hall_parts.specs.Puts as Puts

@@ -1,20 +1,12 @@
 -- What an owner's call has in its hands when its deque is given up, or its thread waits.
 use Rattle.std.specs.Prelude.{◌≡◌, ℕ, ◌≤◌, Option, false, None, List, ◌∷◌}
-use Rattle.dag_order.specs.declared.thread_id.ThreadId.{ThreadId}
-use Rattle.deque_list.specs.declared.deque_id.DequeId.{DequeId}
+use Rattle.hall_parts.specs.HallNames.{DequeId, Each, ListSlot, HallKey, ThreadId, deed_of, Thread, kept_under, thread_shown}
 use Rattle.depth_first_list.specs.Actions.{joins}
-use Rattle.hall_slots.specs.Passed.Lists.{Each}
 use Rattle.hall_slots.specs.Passed.Parts.{Has}
 use Rattle.thread_frames.specs.Passed.Parts as shown
 use Rattle.space_ledger.specs.BooksList.{books_spare}
-use Rattle.thread_frames.specs.Actions.{deed_of}
 use Rattle.thread_frames.specs.declared.next.Next.TheVariants as nexts
-use Rattle.thread_frames.specs.declared.thread.Thread.{Thread}
-use Rattle.thread_map.specs.Kept.{kept_under}
 use Rattle.thread_frames.specs.Kept.{IsUnderItsId}
-use Rattle.thread_frames.specs.Shown.{thread_shown}
-use Rattle.hall_slots.specs.declared.list_slot.ListSlot.{ListSlot}
-use Rattle.hall_slots.specs.declared.key.HallKey.{HallKey}
 use Rattle.hall_parts.specs.EventParts.{IsNext}
 
 -- The deque is in the list, with an owner or none, and there is memory to close a period.

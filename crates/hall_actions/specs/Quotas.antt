@@ -5,12 +5,9 @@ use Rattle.language_limits.specs.declared.TheConstants.{GREATEST_QUOTA}
 use Rattle.hall_slots.specs.Passed.Period.{Period as OpenPeriod}
 use Rattle.hall_parts.specs.Passed.Readiness.{IsReadiness}
 use Rattle.hall_parts.specs.Passed.ReadinessVariants.{Ready, Spent}
-use Rattle.thread_frames.specs.declared.next.Next.{Next}
 use Rattle.thread_frames.specs.declared.next.Next.TheVariants as nexts
-use Rattle.thread_frames.specs.declared.thread.Thread.{Thread}
 use Rattle.hall_parts.specs.EventParts.{IsNext, MayDoNext, IsTooMuch}
-use Rattle.hall_slots.specs.declared.key.HallKey.{HallKey}
-use Rattle.hall_slots.specs.Keys.{quota_of}
+use Rattle.hall_parts.specs.HallNames.{HallKey, quota_of, Next, Thread}
 
 -- The period may do the action, which uses so many words of the quota, a Fork those of a record block. What it has used then can be counted.
 pub record MayUse (key : HallKey) (worker : ℕ) (next : Next) (charge : ℕ) (top : Thread) (period : OpenPeriod) : Type 0 where

@@ -1,21 +1,11 @@
 -- What an owner knows of its lane and of the pool once it took them.
 use Rattle.std.specs.Prelude.{◌≡◌, ◌≢◌, ℕ, ◌+◌, ◌≤◌, ◌<◌, false, Some, List, ◌∷◌}
-use Rattle.deque_list.specs.declared.deque_id.DequeId.{DequeId}
+use Rattle.hall_parts.specs.HallNames.{DequeId, Each, LaneSlot, PoolSlot, HallKey, table_of, quota_of, IsKey, HallSeat, MeetsLaw, IsAtPoint, done_of}
+use Rattle.hall_parts.specs.HallNames.{thread_words, Thread, HasAs, PoolIsSound}
 use Rattle.depth_first_list.specs.Actions.{record_words}
-use Rattle.hall_slots.specs.Passed.Lists.{Each}
 use Rattle.open_periods.specs.declared.period.Period.{Period as OpenPeriod}
 use Rattle.hall_parts.specs.Passed.StopVariants.{OutOfMemory}
-use Rattle.thread_frames.specs.Points.{IsAtPoint}
-use Rattle.thread_frames.specs.Views.{done_of, thread_words}
-use Rattle.thread_frames.specs.declared.thread.Thread.{Thread}
-use Rattle.turn_table.specs.Notes.{HasAs}
-use Rattle.hall_slots.specs.declared.lane_slot.LaneSlot.{LaneSlot}
-use Rattle.hall_slots.specs.declared.pool_slot.PoolSlot.{PoolSlot}
 use Rattle.hall_slots.specs.declared.slot.Slot.TheVariants as slots
-use Rattle.hall_slots.specs.declared.key.HallKey.{HallKey}
-use Rattle.hall_slots.specs.Keys.{table_of, quota_of, IsKey}
-use Rattle.hall_slots.specs.Sound.{PoolIsSound}
-use Rattle.hall_slots.specs.Takes.{HallSeat, MeetsLaw}
 
 -- The quota covers a record block. The lane has a thread on top and a period that runs. Unless the seat found that memory was wanting, all its threads are at their points.
 -- The top thread has no more words than the pool and has done no more actions than may be done, and the period has used no more than the quota.

@@ -1,23 +1,12 @@
 -- What an owner's call has in its hands when it does an action.
 use Rattle.std.specs.Prelude.{◌≡◌, ℕ, ◌≤◌, ◌<◌, List}
-use Rattle.deque_list.specs.declared.deque_id.DequeId.{DequeId}
+use Rattle.hall_parts.specs.HallNames.{DequeId, Each, LaneSlot, Running, PoolSlot, Slot, HallKey, table_of, quota_of, HallSeat, IsAtPoint, done_of, Thread}
+use Rattle.hall_parts.specs.HallNames.{PoolIsSound}
 use Rattle.deque_list.specs.Lanes.{LaneView}
 use Rattle.depth_first_list.specs.Actions.{record_words}
 use Rattle.language_limits.specs.declared.TheConstants.{GREATEST_COUNT, GREATEST_QUOTA}
-use Rattle.hall_slots.specs.Passed.Lists.{Each}
 use Rattle.space_ledger.specs.MovesList.{moves_spare}
-use Rattle.thread_frames.specs.Points.{IsAtPoint}
-use Rattle.thread_frames.specs.Views.{done_of}
-use Rattle.thread_frames.specs.declared.thread.Thread.{Thread}
 use Rattle.hall_parts.specs.Here.{HasRoomHere}
-use Rattle.hall_slots.specs.declared.lane_slot.LaneSlot.{LaneSlot}
-use Rattle.hall_slots.specs.declared.lane_slot.Running.{Running}
-use Rattle.hall_slots.specs.declared.pool_slot.PoolSlot.{PoolSlot}
-use Rattle.hall_slots.specs.declared.slot.Slot.{Slot}
-use Rattle.hall_slots.specs.declared.key.HallKey.{HallKey}
-use Rattle.hall_slots.specs.Keys.{table_of, quota_of}
-use Rattle.hall_slots.specs.Sound.{PoolIsSound}
-use Rattle.hall_slots.specs.Takes.{HallSeat}
 use Rattle.hall_parts.specs.Rooms.{IsSamePool}
 use Rattle.hall_parts.specs.EventParts.{IsAtAction}
 use Rattle.hall_parts.specs.Taken.{pool_and_lane}

@@ -1,17 +1,11 @@
 -- What an owner puts back if no event comes.
 use Rattle.std.specs.Prelude.{◌≡◌}
-use Rattle.deque_list.specs.declared.deque_id.DequeId.{DequeId}
+use Rattle.hall_parts.specs.HallNames.{DequeId, lane_shown, HallSeat, HallKey, LaneSlot, ListSlot, PoolSlot}
 use Rattle.hall_parts.specs.Rooms.{HasMoreRoom, IsSamePool}
 use Rattle.hall_parts.specs.Staying.{NotesOn, AllAtPoints}
 use Rattle.hall_parts.specs.EventParts.{MayGoOn}
 use Rattle.hall_parts.specs.Puts.{note_of}
 use Rattle.hall_parts.specs.declared.noting.Noting.{Noting}
-use Rattle.hall_slots.specs.Shown.{lane_shown}
-use Rattle.hall_slots.specs.Takes.{HallSeat}
-use Rattle.hall_slots.specs.declared.key.HallKey.{HallKey}
-use Rattle.hall_slots.specs.declared.lane_slot.LaneSlot.{LaneSlot}
-use Rattle.hall_slots.specs.declared.list_slot.ListSlot.{ListSlot}
-use Rattle.hall_slots.specs.declared.pool_slot.PoolSlot.{PoolSlot}
 use Rattle.hall_parts.specs.Writes.{Parts, parts, MayBecome}
 use Rattle.hall_parts.specs.Taken.{pool_and_lane, list_and_lane, all_three}
 

@@ -1,15 +1,11 @@
 -- What an owner does that holds the list and the pool beside its lane, whichever the event is.
 use Rattle.std.specs.Prelude.{◌≡◌, ℕ, ◌≤◌, ◌<◌, true, Option, None, Some, [], length}
-use Rattle.deque_list.specs.declared.deque_id.DequeId.{DequeId}
+use Rattle.hall_parts.specs.HallNames.{DequeId, HallSeat, HallKey, ListSlot, PoolSlot, IsEnd, label_of, next_of, Ended, Thread, kept_under}
 use Rattle.hall_parts.specs.EventParts.{IsNext, MayGoOn}
 use Rattle.hall_parts.specs.Passed.Joins.{released}
 use Rattle.hall_parts.specs.Passed.Points.{words_at_end}
 use Rattle.hall_parts.specs.Rooms.{HasMoreToLeave, IsSamePool}
 use Rattle.hall_parts.specs.Taken.{all_three}
-use Rattle.hall_slots.specs.Takes.{HallSeat}
-use Rattle.hall_slots.specs.declared.key.HallKey.{HallKey}
-use Rattle.hall_slots.specs.declared.list_slot.ListSlot.{ListSlot}
-use Rattle.hall_slots.specs.declared.pool_slot.PoolSlot.{PoolSlot}
 use Rattle.hall_actions.specs.declared.at_next.AtNext.{AtNext}
 use Rattle.hall_actions.specs.Ends.{CanLeave, CanWake}
 use Rattle.hall_actions.specs.Kept.{CanJoinKept}
@@ -18,12 +14,7 @@ use Rattle.hall_actions.specs.Ready.{IsReady, PoolIsReady}
 use Rattle.hall_actions.specs.declared.with_all.WholeEvent.{WholeEvent}
 use Rattle.hall_actions.specs.declared.with_all.WholeEvent.TheVariants.{Join, Wake, Leave}
 use Rattle.space_ledger.specs.BooksList.{books_spare}
-use Rattle.thread_frames.specs.Actions.{IsEnd}
-use Rattle.thread_frames.specs.Views.{label_of, next_of}
-use Rattle.thread_frames.specs.declared.ended.Ended.{Ended}
 use Rattle.thread_frames.specs.declared.next.Next.TheVariants as nexts
-use Rattle.thread_frames.specs.declared.thread.Thread.{Thread}
-use Rattle.thread_map.specs.Kept.{kept_under}
 
 -- How the list changed since it was taken, and how much memory there is then: it is asked for only if a result is left.
 abbrev pub HasMoreWith : WholeEvent → (was now : ListSlot) → Type 0

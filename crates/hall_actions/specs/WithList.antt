@@ -1,18 +1,14 @@
 -- What an owner does that holds the list beside its lane and no pool, whichever the event is.
 use Rattle.std.specs.Prelude.{◌≡◌, ℕ, ◌≤◌, Bool, true, false, Option, None, Some, []}
 use Rattle.dag_order.specs.Births.{root}
-use Rattle.dag_order.specs.declared.action_id.ActionId.{ActionId}
-use Rattle.deque_list.specs.declared.deque_id.DequeId.{DequeId}
+use Rattle.hall_parts.specs.HallNames.{DequeId, HallSeat, Event, HallKey, ListSlot, ActionId, IsDummy, IsEnd, label_of, next_of, Ended, Next, Thread}
+use Rattle.hall_parts.specs.HallNames.{kept_under}
 use Rattle.hall_parts.specs.Passed.Acts.{next_name}
 use Rattle.hall_parts.specs.EventParts.{IsNext, IsTooMuch, MayGoOn}
 use Rattle.hall_parts.specs.Passed.Joins.{released}
 use Rattle.hall_parts.specs.Rooms.{HasMoreBooks, HasMoreToLeave, HasMoreToWait}
 use Rattle.hall_parts.specs.Taken.{list_and_lane}
-use Rattle.hall_slots.specs.Takes.{HallSeat}
-use Rattle.hall_slots.specs.declared.event.Event.{Event}
 use Rattle.hall_slots.specs.declared.event.Event.TheVariants.{Stole, Did, Suspended, GaveUp, Halted}
-use Rattle.hall_slots.specs.declared.key.HallKey.{HallKey}
-use Rattle.hall_slots.specs.declared.list_slot.ListSlot.{ListSlot}
 use Rattle.hall_actions.specs.declared.at_next.AtNext.{AtNext}
 use Rattle.hall_actions.specs.Ends.{CanLeave}
 use Rattle.hall_actions.specs.Kept.{CanJoinKept}
@@ -21,13 +17,7 @@ use Rattle.hall_actions.specs.Ready.{IsReady}
 use Rattle.hall_actions.specs.declared.with_list.ListEvent.{ListEvent}
 use Rattle.hall_actions.specs.declared.with_list.ListEvent.TheVariants.{GiveUp, Wait, Dummy, Join, RootEnd}
 use Rattle.space_ledger.specs.BooksList.{books_spare}
-use Rattle.thread_frames.specs.Actions.{IsDummy, IsEnd}
-use Rattle.thread_frames.specs.Views.{label_of, next_of}
-use Rattle.thread_frames.specs.declared.ended.Ended.{Ended}
-use Rattle.thread_frames.specs.declared.next.Next.{Next}
 use Rattle.thread_frames.specs.declared.next.Next.TheVariants as nexts
-use Rattle.thread_frames.specs.declared.thread.Thread.{Thread}
-use Rattle.thread_map.specs.Kept.{kept_under}
 
 -- whether it is an action, which is counted
 abbrev pub is_action : ListEvent → Bool

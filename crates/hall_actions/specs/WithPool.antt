@@ -1,6 +1,6 @@
 -- What an owner does that holds the pool beside its lane, whichever the action is.
 use Rattle.std.specs.Prelude.{◌≡◌, ℕ, ◌<◌, List, [], length, IsTrue, ◌≢◌}
-use Rattle.dag_order.specs.declared.action_id.ActionId.{ActionId}
+use Rattle.hall_parts.specs.HallNames.{ActionId, is_there, children_of, join_words_of, label_of, newest, Next, Thread}
 use Rattle.depth_first_list.specs.Actions.{record_words}
 use Rattle.hall_parts.specs.Passed.Acts.{AllocIsCharged, Always}
 use Rattle.hall_parts.specs.Forks.{ForksHere}
@@ -9,11 +9,7 @@ use Rattle.hall_parts.specs.Ends.{EndsAbove}
 use Rattle.hall_parts.specs.Joins.{JoinsHere}
 use Rattle.hall_parts.specs.Passed.ThreadActionsResults.{FirstAwaits}
 use Rattle.hall_slots.specs.Passed.Period.{Period as OpenPeriod}
-use Rattle.thread_frames.specs.Actions.{is_there}
-use Rattle.thread_frames.specs.Views.{children_of, join_words_of, label_of, newest}
-use Rattle.thread_frames.specs.declared.next.Next.{Next}
 use Rattle.thread_frames.specs.declared.next.Next.TheVariants.{Fork, Join, Alloc, Release, Dummy, Fault, End}
-use Rattle.thread_frames.specs.declared.thread.Thread.{Thread}
 
 -- the words that an action takes of the arena
 abbrev pub words_asked_by : Next → ℕ

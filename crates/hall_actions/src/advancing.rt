@@ -3,34 +3,24 @@
 ghost use Rattle.std.specs.Prelude.{◌≡◌, ◌+◌, ◌<◌, ◌≤◌, ℕ, Some, IfOk, OnOk, IsSome};
 ghost use Rattle.std.specs.Option.{option_map};
 ghost use Rattle.containers.specs.BoundedList.{entries, spare};
-ghost use Rattle.turn_table.specs.Tables.{key_of, slot_count, IsSeatOf};
-ghost use Rattle.hall_slots.specs.Shown.{running_shown};
-ghost use Rattle.hall_slots.specs.Takes.{HasAllPlaces, MeetsLaw};
-ghost use Rattle.hall_slots.specs.declared.lane_slot.LaneSlot.{LaneSlot as AnyLane};
-ghost use Rattle.hall_slots.specs.declared.lane_slot.Running.{Running as AnyRunning};
+ghost use Rattle.hall_parts.specs.HallNames.{key_of, slot_count, IsSeatOf, running_shown, HasAllPlaces, MeetsLaw, LaneSlot as AnyLane};
+ghost use Rattle.hall_parts.specs.HallNames.{Running as AnyRunning};
 ghost use Rattle.hall_actions.specs.Advancing.{HasCome, IsNotBusy, IsReadable, IsRunBy, MayCome, RunsOn};
 ghost use Rattle.hall_actions.specs.Rooms.{HasRoomToRun};
 
 use crate::at_next::{AtNext, put_together, take_apart};
 use crate::memory::SeatMemory;
+use crate::refused::ActRefused;
 use crate::rooms::reserve_lane;
 use depth_first_list::Quota;
 use deque_list::DequeId;
 use hall_parts::give_short_back;
 use hall_slots::{HallPlace, HallRow, LaneSlot, take_lane};
+use node_table::Code;
+use play_rules::Stop;
 use std::alloc::{AllocError, Global};
 use thread_actions::advance;
-use thread_frames::{Code, Next};
-use turn_table::Held;
-
-/// Why no thread came to its next action.
-#[derive(Clone, Copy, PartialEq, Eq, Debug)]
-pub enum AdvanceRefused {
-    /// Another seat holds the lane.
-    Busy(Held),
-    /// There is not enough memory.
-    OutOfMemory,
-}
+use thread_frames::Next;
 
 /// Asks for the memory that the next event needs in the lane and in the seat.
 fn make_room(lane: &mut LaneSlot, memory: &mut SeatMemory, alloc: Global) -> Result<(), AllocError>
@@ -55,7 +45,7 @@ fn run_on(
     code: &Code,
     quota: Quota,
     alloc: Global,
-) -> Result<(AtNext, Next), AdvanceRefused>
+) -> Result<(AtNext, Next), ActRefused>
     requires here { IsSeatOf row.now seat.old }
     requires slot { deque.0 + 2 < slot_count row.now }
     requires terms { IsRunBy (key_of row.now) code.now quota }
@@ -69,7 +59,7 @@ fn run_on(
         Ok(next) => Ok((at, next)),
         Err(_) => {
             give_short_back(row, seat, deque, put_together(at));
-            Err(AdvanceRefused::OutOfMemory)
+            Err(ActRefused::Stopped(Stop::OutOfMemory))
         }
     }
 }
@@ -88,7 +78,7 @@ pub fn come_to_next(
     quota: Quota,
     alloc: Global,
     memory: &mut SeatMemory,
-) -> Result<(AtNext, Next), AdvanceRefused>
+) -> Result<(AtNext, Next), ActRefused>
     requires here { IsSeatOf row.now seat.old }
     requires slot { deque.0 + 2 < slot_count row.now }
     requires terms { IsRunBy (key_of row.now) code.now quota }
@@ -101,13 +91,13 @@ pub fn come_to_next(
 {
     let mut lane = match take_lane(row, seat, deque) {
         Ok(lane) => lane,
-        Err(held) => return Err(AdvanceRefused::Busy(held)),
+        Err(held) => return Err(ActRefused::Busy(held)),
     };
     match make_room(&mut lane, memory, alloc) {
         Ok(()) => run_on(row, seat, deque, lane, code, quota, alloc),
         Err(_) => {
             give_short_back(row, seat, deque, lane);
-            Err(AdvanceRefused::OutOfMemory)
+            Err(ActRefused::Stopped(Stop::OutOfMemory))
         }
     }
 }

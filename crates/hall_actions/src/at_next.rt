@@ -1,8 +1,7 @@
 //! A lane whose top thread was taken out, before its next action.
 
 ghost use Rattle.std.specs.Prelude.{◌≡◌, ◌≤◌, ◌+◌, ◌∷◌, List as AnyList, Some};
-ghost use Rattle.hall_slots.specs.declared.lane_slot.Running.{Running as AnyRunning};
-ghost use Rattle.thread_frames.specs.declared.thread.Thread.{Thread as AnyThread};
+ghost use Rattle.hall_parts.specs.HallNames.{Running as AnyRunning, Thread as AnyThread};
 
 use containers::Boxed;
 use deque_list::Lane;
@@ -46,8 +45,6 @@ pub fn put_together(at: AtNext) -> LaneSlot
     let AtNext { lane, running, top } = at;
     let mut lane = lane;
     lane.push_top(top);
-    LaneSlot {
-        lane,
-        running: Some(running),
-    }
+    let running = Some(running);
+    LaneSlot { lane, running }
 }

@@ -1,15 +1,13 @@
 //! How an owner asks for memory in the slots that it took.
 
-ghost use Rattle.std.specs.Prelude.{◌≡◌, ◌≤◌, [], ℕ, Some, OnOk};
+ghost use Rattle.std.specs.Prelude.{◌≡◌, ◌≤◌, ℕ, Some, OnOk};
 ghost use Rattle.std.specs.Option.{option_map};
 ghost use Rattle.space_ledger.specs.BooksList.{books_spare};
 ghost use Rattle.space_ledger.specs.MovesList.{moves_spare};
 ghost use Rattle.hall_parts.specs.Rooms.{HasMoreBooks, HasMoreToWait, HasMoreToLeave, IsSamePool};
-ghost use Rattle.hall_slots.specs.Shown.{running_shown};
-ghost use Rattle.hall_slots.specs.declared.lane_slot.Running.{Running as AnyRunning};
+ghost use Rattle.hall_parts.specs.HallNames.{running_shown, Running as AnyRunning};
 ghost use Rattle.hall_actions.specs.Rooms.{HasRoomToRun};
 
-use containers::Boxed;
 use hall_slots::{LaneSlot, ListSlot, PoolSlot, Running};
 use open_periods::reserve_in;
 use std::alloc::AllocError;
@@ -27,11 +25,8 @@ fn reserve_running(running: &mut Option<Running>) -> Result<(), AllocError>
     }
 }
 
-/// Makes room in a lane for one more thread, and for an action in the period that runs there, and for a birth, if it is not the first one.
-///
-/// # Errors
-///
-/// There is not enough memory.
+/// Makes room in a lane for one more thread, and for an action in the period that runs there, and for a birth, if it is not the first one. Fails if
+/// there is not enough memory.
 pub(crate) fn reserve_lane(lane: &mut LaneSlot) -> Result<(), AllocError>
     requires { (was : AnyRunning) × (lane.old.running ≡ Some was) }
     ensures items { lane.new.lane.items ≡ lane.old.lane.items }
@@ -56,28 +51,24 @@ pub fn make_room_for_move(pool: &mut PoolSlot) -> Result<(), AllocError>
     pool.moves.reserve()
 }
 
-/// Makes room in a list for a period that is closed.
-fn reserve_books(list: &mut ListSlot) -> Result<(), AllocError>
+/// Makes room in the list for a period that is closed.
+///
+/// # Errors
+///
+/// There is not enough memory.
+pub fn make_room_to_close(list: &mut ListSlot) -> Result<(), AllocError>
     ensures same { HasMoreBooks list.old list.new }
     ensures room { OnOk result (1 ≤ books_spare list.new.part.books) }
 {
     list.part.books.reserve()
 }
 
-/// Makes room in the list for a period that is closed.
+/// Makes room in the list for a period that is closed, and a thread that waits.
 ///
 /// # Errors
 ///
 /// There is not enough memory.
-pub fn make_room_to_close(list: &mut Boxed<ListSlot>) -> Result<(), AllocError>
-    ensures same { HasMoreBooks list.old list.new }
-    ensures room { OnOk result (1 ≤ books_spare list.new.part.books) }
-{
-    reserve_books(list.get_mut())
-}
-
-/// Makes room in a list for a period that is closed, and a thread that waits.
-fn reserve_to_wait(list: &mut ListSlot) -> Result<(), AllocError>
+pub fn make_room_to_wait(list: &mut ListSlot) -> Result<(), AllocError>
     ensures same { HasMoreToWait list.old list.new }
     ensures books { OnOk result (1 ≤ books_spare list.new.part.books) }
     ensures room { OnOk result (1 ≤ list.new.part.waiting.spare) }
@@ -86,38 +77,16 @@ fn reserve_to_wait(list: &mut ListSlot) -> Result<(), AllocError>
     list.part.waiting.reserve()
 }
 
-/// Makes room in the list for a period that is closed, and a thread that waits.
+/// Makes room in the list for a period that is closed, and a result.
 ///
 /// # Errors
 ///
 /// There is not enough memory.
-pub fn make_room_to_wait(list: &mut Boxed<ListSlot>) -> Result<(), AllocError>
-    ensures same { HasMoreToWait list.old list.new }
-    ensures books { OnOk result (1 ≤ books_spare list.new.part.books) }
-    ensures room { OnOk result (1 ≤ list.new.part.waiting.spare) }
-{
-    reserve_to_wait(list.get_mut())
-}
-
-/// Makes room in a list for a period that is closed, and a result.
-fn reserve_to_leave(list: &mut ListSlot) -> Result<(), AllocError>
+pub fn make_room_to_leave(list: &mut ListSlot) -> Result<(), AllocError>
     ensures same { HasMoreToLeave list.old list.new }
     ensures books { OnOk result (1 ≤ books_spare list.new.part.books) }
     ensures room { OnOk result (1 ≤ list.new.part.results.spare) }
 {
     list.part.books.reserve()?;
     list.part.results.reserve()
-}
-
-/// Makes room in the list for a period that is closed, and a result.
-///
-/// # Errors
-///
-/// There is not enough memory.
-pub fn make_room_to_leave(list: &mut Boxed<ListSlot>) -> Result<(), AllocError>
-    ensures same { HasMoreToLeave list.old list.new }
-    ensures books { OnOk result (1 ≤ books_spare list.new.part.books) }
-    ensures room { OnOk result (1 ≤ list.new.part.results.spare) }
-{
-    reserve_to_leave(list.get_mut())
 }

@@ -2,18 +2,11 @@
 
 ghost use Rattle.std.specs.Prelude.{◌≡◌, ◌≤◌, ◌+◌, ◌<◌, ◌∷◌, [], Some, OnOk};
 ghost use Rattle.containers.specs.BoundedList.{entries, spare};
-ghost use Rattle.language_limits.specs.declared.TheConstants.{GREATEST_COUNT, GREATEST_QUOTA};
-ghost use Rattle.thread_frames.specs.Points.{IsAtPoint, IsPlaced};
-ghost use Rattle.thread_frames.specs.Views.{done_of};
-ghost use Rattle.thread_frames.specs.declared.thread.Thread.{Thread as AnyThread};
-ghost use Rattle.thread_map.specs.Kept.{kept_under};
-ghost use Rattle.turn_table.specs.Tables.{key_of, slot_count, IsSeatOf};
-ghost use Rattle.hall_slots.specs.Keys.{table_of, quota_of};
-ghost use Rattle.hall_slots.specs.Takes.{HallSeat};
+ghost use Rattle.hall_parts.specs.HallNames.{key_of, slot_count, IsSeatOf, table_of, quota_of, HallSeat, HallKey, IsAtPoint, Thread as AnyThread};
+ghost use Rattle.hall_parts.specs.HallNames.{kept_under};
 ghost use Rattle.hall_slots.specs.declared.event.Event.TheVariants.{Did};
-ghost use Rattle.hall_slots.specs.declared.key.HallKey.{HallKey};
 ghost use Rattle.hall_parts.specs.Passed.Acts.{next_name};
-ghost use Rattle.hall_parts.specs.Here.{HasMovesFor, HasRoomHere};
+ghost use Rattle.hall_parts.specs.Here.{MayDo, HasMovesFor};
 ghost use Rattle.hall_parts.specs.ListCalls.{TakesWaiting, KeepsCrew};
 ghost use Rattle.hall_parts.specs.Puts.{HasPut, MayPutAll};
 ghost use Rattle.hall_parts.specs.Writes.{told_note};
@@ -21,12 +14,14 @@ ghost use Rattle.hall_actions.specs.WithAll.{HasMoreWith, HasRoomWith, IsReadyFo
 
 use crate::at_next::AtNext;
 use crate::memory::SeatMemory;
-use crate::results::{hand_over_in, id_of, leave_in};
+use crate::results::{hand_over, id_of};
 use crate::rooms::make_room_to_leave;
 use containers::Boxed;
 use dag_order::{ActionId, ThreadId};
 use deque_list::{DequeId, Lane};
-use hall_parts::{Noting, do_join_giving, end_above, end_forked, put_all, take_waiting};
+use hall_parts::{
+    Noting, do_join_giving, end_above, end_forked, leave_result, put_all, take_waiting,
+};
 use hall_slots::{Event, HallPlace, HallRow, LaneSlot, ListSlot, PoolSlot};
 use std::alloc::AllocError;
 use thread_frames::Thread;
@@ -47,7 +42,7 @@ pub enum WholeEvent {
 /// # Errors
 ///
 /// There is not enough memory.
-pub fn make_room_with(list: &mut Boxed<ListSlot>, event: WholeEvent) -> Result<(), AllocError>
+pub fn make_room_with(list: &mut ListSlot, event: WholeEvent) -> Result<(), AllocError>
     ensures same { HasMoreWith event list.old list.new }
     ensures room { OnOk result (HasRoomWith event list.new) }
 {
@@ -59,7 +54,7 @@ pub fn make_room_with(list: &mut Boxed<ListSlot>, event: WholeEvent) -> Result<(
 }
 
 /// Puts the thread that waits for a child on top of a lane.
-fn wake_in(list: &mut Boxed<ListSlot>, lane: &mut Lane<Boxed<Thread>>, child: ThreadId)
+fn wake_in(list: &mut ListSlot, lane: &mut Lane<Boxed<Thread>>, child: ThreadId)
     requires waits { (parent : AnyThread) × (kept_under list.old.part.waiting child ≡ Some parent) }
     requires room { 1 ≤ lane.old.spare }
     ensures woken { (parent : AnyThread) → kept_under list.old.part.waiting child ≡ Some parent
@@ -67,7 +62,7 @@ fn wake_in(list: &mut Boxed<ListSlot>, lane: &mut Lane<Boxed<Thread>>, child: Th
     ensures results { list.new.part.results ≡ list.old.part.results }
     ensures rest { KeepsCrew list.old list.new }
 {
-    let Some(parent) = take_waiting(list.get_mut(), child) else {
+    let Some(parent) = take_waiting(list, child) else {
         unreachable!();
     };
     lane.push_top(parent);
@@ -77,16 +72,12 @@ fn wake_in(list: &mut Boxed<ListSlot>, lane: &mut Lane<Boxed<Thread>>, child: Th
 fn do_with_all(
     deque: DequeId,
     at: AtNext,
-    list: &mut Boxed<ListSlot>,
+    list: &mut ListSlot,
     pool: &mut PoolSlot,
     memory: &mut SeatMemory,
     event: WholeEvent,
 ) -> (LaneSlot, ActionId, Option<DequeId>)
-    requires placed { IsPlaced at.top }
-    requires count { done_of at.top < GREATEST_COUNT }
-    requires room { HasRoomHere 1 at.lane at.running.period (spare memory.old.births) }
-    requires used { at.running.period.used ≤ GREATEST_QUOTA }
-    requires none { entries memory.old.births ≡ [] }
+    requires may { MayDo 1 0 at.top at.lane at.running.period memory.old.births }
     requires moves { HasMovesFor pool.old.pool.live pool.old.moves }
     requires can { (key : HallKey) × IsAtPoint (table_of key) (quota_of key) at.top × IsWithAll key deque list.old pool.old at event }
     ensures writes { (key : HallKey) (seat : HallSeat) → IsReadyForAll key seat deque list.old pool.old at (spare memory.old.births) event
@@ -100,34 +91,25 @@ fn do_with_all(
     let mut running = running;
     let mut top = top;
     let first = &mut memory.births;
-    let arena = &mut pool.pool;
-    let moves = &mut pool.moves;
     match event {
         WholeEvent::Join { child } => {
-            hand_over_in(list, &mut top, child);
-            let name = do_join_giving(&mut lane, &mut running.period, first, arena, moves, top);
+            hand_over(list, &mut top, child);
+            let name = do_join_giving(&mut lane, &mut running.period, first, pool, top);
             let running = Some(running);
             (LaneSlot { lane, running }, name, Some(deque))
         }
         WholeEvent::Wake => {
             let id = id_of(&top);
             wake_in(list, &mut lane, id);
-            let name = end_above(
-                &mut lane,
-                &mut running.period,
-                first,
-                arena,
-                moves,
-                &mut top,
-            );
+            let name = end_above(&mut lane, &mut running.period, first, pool, &mut top);
             memory.used = Some(top);
             let running = Some(running);
             (LaneSlot { lane, running }, name, Some(deque))
         }
         WholeEvent::Leave => {
             let id = id_of(&top);
-            let (name, ended) = end_forked(&mut running.period, first, arena, moves, &mut top);
-            leave_in(list, deque, running, id, ended);
+            let (name, ended) = end_forked(&mut running.period, first, pool, &mut top);
+            leave_result(list, deque, running, id, ended);
             memory.used = Some(top);
             let running = None;
             (LaneSlot { lane, running }, name, None)
@@ -158,7 +140,7 @@ pub fn act_with_all(
 {
     let mut list = list;
     let mut pool = pool;
-    let (lane, name, owns) = do_with_all(deque, at, &mut list, &mut pool, memory, event);
+    let (lane, name, owns) = do_with_all(deque, at, list.get_mut(), &mut pool, memory, event);
     let event = Event::Did(name);
     put_all(
         row,

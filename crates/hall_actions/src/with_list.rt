@@ -1,35 +1,24 @@
 //! The events for which an owner holds the list beside its lane, and no pool.
 
-ghost use Rattle.std.specs.Prelude.{◌≡◌, ◌≤◌, ◌+◌, ◌<◌, ◌∷◌, [], None, Some, OnOk};
-ghost use Rattle.std.specs.List.Sorted.{IsPermutation};
+ghost use Rattle.std.specs.Prelude.{◌≡◌, ◌+◌, ◌<◌, [], None, Some, OnOk};
 ghost use Rattle.containers.specs.BoundedList.{entries, spare};
-ghost use Rattle.language_limits.specs.declared.TheConstants.{GREATEST_COUNT, GREATEST_QUOTA};
 ghost use Rattle.hall_parts.specs.Passed.RunEndVariants.{Finished};
-ghost use Rattle.thread_frames.specs.Points.{IsAtPoint, IsPlaced};
 ghost use Rattle.thread_frames.specs.Roots.{end_of_root};
-ghost use Rattle.thread_frames.specs.Views.{done_of};
-ghost use Rattle.thread_map.specs.Kept.{kept_under};
-ghost use Rattle.turn_table.specs.Tables.{key_of, slot_count, IsSeatOf};
-ghost use Rattle.hall_slots.specs.ListCalls.{ShowsUnowned, HasNoOwner, IsGone, KeepsRest};
-ghost use Rattle.hall_slots.specs.Keys.{table_of, quota_of};
-ghost use Rattle.hall_slots.specs.Takes.{HallSeat};
-ghost use Rattle.hall_slots.specs.declared.key.HallKey.{HallKey};
-ghost use Rattle.hall_parts.specs.Here.{HasRoomHere};
-ghost use Rattle.hall_parts.specs.ListCalls.{SuspendsThere, KeepsCrew};
+ghost use Rattle.hall_parts.specs.HallNames.{key_of, slot_count, IsSeatOf, table_of, quota_of, HallSeat, HallKey, IsAtPoint};
+ghost use Rattle.hall_parts.specs.Here.{MayDo};
 ghost use Rattle.hall_parts.specs.Puts.{HasPut, MayPutListAndLane};
 ghost use Rattle.hall_parts.specs.Writes.{told_note};
-ghost use Rattle.hall_actions.specs.Pauses.{CanClose};
 ghost use Rattle.hall_actions.specs.WithList.{is_action, HasMoreFor, HasRoomFor, IsNamedAs, IsNotedFor, IsReadyForList, IsWithList};
 
 use crate::at_next::AtNext;
 use crate::memory::SeatMemory;
-use crate::results::{hand_over_in, id_of, leave_in};
+use crate::results::{hand_over, id_of};
 use crate::rooms::{make_room_to_close, make_room_to_leave, make_room_to_wait};
 use containers::Boxed;
 use dag_order::{Finish, ThreadId};
 use deque_list::{DequeId, Lane};
-use hall_parts::{Noting, do_dummy, do_join, end_root, put_list_and_lane, suspend};
-use hall_slots::{Event, HallPlace, HallRow, LaneSlot, ListSlot, Running};
+use hall_parts::{Noting, do_dummy, do_join, end_root, leave_result, put_list_and_lane, suspend};
+use hall_slots::{Event, HallPlace, HallRow, LaneSlot, ListSlot};
 use play_rules::RunEnd;
 use std::alloc::AllocError;
 use thread_frames::{Ended, Thread};
@@ -69,7 +58,7 @@ impl ListEvent {
 /// # Errors
 ///
 /// There is not enough memory.
-pub fn make_room_for(list: &mut Boxed<ListSlot>, event: ListEvent) -> Result<(), AllocError>
+pub fn make_room_for(list: &mut ListSlot, event: ListEvent) -> Result<(), AllocError>
     ensures same { HasMoreFor event list.old list.new }
     ensures room { OnOk result (HasRoomFor event list.new) }
 {
@@ -82,36 +71,6 @@ pub fn make_room_for(list: &mut Boxed<ListSlot>, event: ListEvent) -> Result<(),
     }
 }
 
-/// Takes the owner of a deque away, and closes its period.
-fn give_up_in(list: &mut Boxed<ListSlot>, deque: DequeId, running: Running)
-    requires { CanClose deque list.old }
-    ensures shown { ShowsUnowned list.old list.new deque running }
-    ensures places { HasNoOwner deque list.old.part.order.places list.new.part.order.places }
-    ensures rest { KeepsRest list.old list.new }
-{
-    list.get_mut().give_up(deque, running);
-}
-
-/// Lets a thread wait for a child, and closes the period of its deque, which is gone.
-fn suspend_in(
-    list: &mut Boxed<ListSlot>,
-    deque: DequeId,
-    running: Running,
-    top: Boxed<Thread>,
-    child: ThreadId,
-)
-    requires closes { CanClose deque list.old }
-    requires room { 1 ≤ list.old.part.waiting.spare }
-    requires free { kept_under list.old.part.waiting child ≡ None }
-    ensures shown { SuspendsThere list.old list.new deque running top }
-    ensures places { IsGone deque list.old.part.order.places list.new.part.order.places }
-    ensures waiting { IsPermutation ((child, top) ∷ list.old.part.waiting.entries) list.new.part.waiting.entries }
-    ensures results { list.new.part.results ≡ list.old.part.results }
-    ensures rest { KeepsCrew list.old list.new }
-{
-    suspend(list.get_mut(), deque, running, top, child);
-}
-
 /// Returns how a run finishes with this result of its root.
 fn finish_of(ended: &Ended) -> Finish
     ensures { end_of_root (Some ended.now) ≡ Some (Finished result) }
@@ -122,37 +81,23 @@ fn finish_of(ended: &Ended) -> Finish
     }
 }
 
-/// Keeps in a list that the run has finished.
-fn keep_finish(list: &mut Boxed<ListSlot>, finish: Finish)
-    ensures { list.new ≡ record list.old { end = Some (Finished finish) } }
-{
-    list.get_mut().end = Some(RunEnd::Finished(finish));
-}
-
 /// An event after which the lane has no period, and the seat no deque.
 fn left(lane: Lane<Boxed<Thread>>, event: Event) -> (LaneSlot, Event, Option<DequeId>)
     ensures { result ≡ (record { lane = lane; running = None }, event, None) }
 {
-    let lane = LaneSlot {
-        lane,
-        running: None,
-    };
-    (lane, event, None)
+    let running = None;
+    (LaneSlot { lane, running }, event, None)
 }
 
 /// Does an event. Returns the lane as it goes back, what the seat notes, and the deque that it owns then.
 fn do_with_list(
     deque: DequeId,
     at: AtNext,
-    list: &mut Boxed<ListSlot>,
+    list: &mut ListSlot,
     memory: &mut SeatMemory,
     event: ListEvent,
 ) -> (LaneSlot, Event, Option<DequeId>)
-    requires placed { IsPlaced at.top }
-    requires count { done_of at.top < GREATEST_COUNT }
-    requires room { HasRoomHere 1 at.lane at.running.period (spare memory.old.births) }
-    requires used { at.running.period.used ≤ GREATEST_QUOTA }
-    requires none { entries memory.old.births ≡ [] }
+    requires may { MayDo 1 0 at.top at.lane at.running.period memory.old.births }
     requires can { (key : HallKey) × IsAtPoint (table_of key) (quota_of key) at.top × IsWithList key deque list.old at event }
     ensures writes { (key : HallKey) (seat : HallSeat) → IsReadyForList key seat deque list.old at (spare memory.old.births) event
         → MayPutListAndLane key seat deque list.new result.0 (told_note seat.hand.note result.2 result.1) }
@@ -167,21 +112,21 @@ fn do_with_list(
     match event {
         ListEvent::GiveUp => {
             lane.push_top(top);
-            give_up_in(list, deque, running);
+            list.give_up(deque, running);
             left(lane, Event::GaveUp(deque))
         }
         ListEvent::Wait { child } => {
             let thread = id_of(&top);
-            suspend_in(list, deque, running, top, child);
+            suspend(list, deque, running, top, child);
             left(lane, Event::Suspended(thread))
         }
         ListEvent::Dummy => {
             let name = do_dummy(&mut lane, &mut running.period, &mut memory.births, top);
-            give_up_in(list, deque, running);
+            list.give_up(deque, running);
             left(lane, Event::Did(name))
         }
         ListEvent::Join { child } => {
-            hand_over_in(list, &mut top, child);
+            hand_over(list, &mut top, child);
             let name = do_join(&mut lane, &mut running.period, &mut memory.births, top);
             let running = Some(running);
             (LaneSlot { lane, running }, Event::Did(name), Some(deque))
@@ -190,8 +135,8 @@ fn do_with_list(
             let id = id_of(&top);
             let (name, ended) = end_root(&mut running.period, &mut memory.births, &mut top);
             let finish = finish_of(&ended);
-            leave_in(list, deque, running, id, ended);
-            keep_finish(list, finish);
+            leave_result(list, deque, running, id, ended);
+            list.end = Some(RunEnd::Finished(finish));
             memory.used = Some(top);
             left(lane, Event::Did(name))
         }
@@ -219,7 +164,7 @@ pub fn act_with_list(
     ensures none { entries memory.new.births ≡ [] }
 {
     let mut list = list;
-    let (lane, noted, owns) = do_with_list(deque, at, &mut list, memory, event);
+    let (lane, noted, owns) = do_with_list(deque, at, list.get_mut(), memory, event);
     let noting = Noting::Does { event: noted, owns };
     put_list_and_lane(row, seat, deque, list, lane, noting);
     (noted, owns)

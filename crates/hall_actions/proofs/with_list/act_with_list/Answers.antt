@@ -1,21 +1,21 @@
-use Rattle.turn_table.specs.Tables.{key_of}
-use Rattle.hall_actions.proofs.Readied.{placed, count, fits}
+use Rattle.std.proofs.Common.{sym, subst}
+use Rattle.containers.specs.BoundedList.{spare}
+use Rattle.hall_parts.specs.HallNames.{key_of, ListSlot}
+use Rattle.hall_actions.specs.WithList.{IsReadyForList, IsWithList}
+use Rattle.hall_actions.proofs.Readied.{may_do}
 use Rattle.hall_actions.proofs.with_list.act_with_list.Goals as goal
 
-pub do_with_list-lane-requires-clause-placed : goal.do_with_list-lane-requires-clause-placed
-do_with_list-lane-requires-clause-placed c = placed _ _ _ _ _ _ _ _ c.requires.ready.is
-
-pub do_with_list-lane-requires-clause-count : goal.do_with_list-lane-requires-clause-count
-do_with_list-lane-requires-clause-count c = count _ _ _ _ _ _ _ _ c.requires.ready.is
-
-pub do_with_list-lane-requires-clause-used : goal.do_with_list-lane-requires-clause-used
-do_with_list-lane-requires-clause-used c = fits _ _ _ _ _ _ _ _ c.requires.ready.is
-
-pub do_with_list-lane-requires-clause-room : goal.do_with_list-lane-requires-clause-room
-do_with_list-lane-requires-clause-room c = c.requires.ready.is.room
+pub do_with_list-lane-requires-clause-may : goal.do_with_list-lane-requires-clause-may
+do_with_list-lane-requires-clause-may c = may_do _ _ _ _ _ _ _ _ c.requires.ready.is c.requires.none
 
 pub do_with_list-lane-requires-clause-can : goal.do_with_list-lane-requires-clause-can
-do_with_list-lane-requires-clause-can c = (key_of c.args.row.now, c.requires.ready.is.point, c.requires.ready.can)
+do_with_list-lane-requires-clause-can c = let key = key_of c.args.row.now in (
+  key,
+  c.requires.ready.is.point,
+  subst (λ (l : ListSlot). IsWithList key c.args.deque l c.args.at c.args.event) (sym c.get_mut.ensures.value) c.requires.ready.can,
+)
 
 pub put_list_and_lane-requires-clause-may : goal.put_list_and_lane-requires-clause-may
-put_list_and_lane-requires-clause-may c = c.do_with_list-lane.ensures.writes (key_of c.args.row.now) c.args.seat.now c.requires.ready
+put_list_and_lane-requires-clause-may c = let key = key_of c.args.row.now in let seat = c.args.seat.now in
+    c.do_with_list-lane.ensures.writes key seat (subst (λ (l : ListSlot). IsReadyForList key seat c.args.deque l c.args.at (spare c.args.memory.now.births)
+    c.args.event) (sym c.get_mut.ensures.value) c.requires.ready)

@@ -3,15 +3,8 @@ use Rattle.std.proofs.lemmas.List.Sorted.{IsPermutation-cons, IsPermutation-tran
 use Rattle.std.specs.Prelude.{Option, None, Some}
 use Rattle.containers.specs.BoundedList.{spare}
 use Rattle.dag_order.specs.Births.{root}
-use Rattle.dag_order.specs.declared.thread_id.ThreadId.{ThreadId}
-use Rattle.deque_list.specs.declared.deque_id.DequeId.{DequeId}
-use Rattle.hall_slots.specs.Passed.Lists.{Each}
-use Rattle.hall_slots.specs.Keys.{table_of, quota_of}
-use Rattle.hall_slots.specs.declared.event.Event.{Event}
+use Rattle.hall_parts.specs.HallNames.{DequeId, Each, table_of, quota_of, Event, LaneSlot, Running, ListSlot, ThreadId, IsAtPoint, Ended, kept_under}
 use Rattle.hall_slots.specs.declared.event.Event.TheVariants.{Did, GaveUp, Suspended}
-use Rattle.hall_slots.specs.declared.lane_slot.LaneSlot.{LaneSlot}
-use Rattle.hall_slots.specs.declared.lane_slot.Running.{Running}
-use Rattle.hall_slots.specs.declared.list_slot.ListSlot.{ListSlot}
 use Rattle.hall_parts.specs.Passed.RunEndVariants.{Finished}
 use Rattle.hall_parts.specs.Puts.{MayPutListAndLane}
 use Rattle.hall_parts.specs.Taken.{list_and_lane}
@@ -23,14 +16,12 @@ use Rattle.hall_parts.proofs.Pauses.{dummies_do, give_ups_do, suspends_do}
 use Rattle.hall_parts.proofs.Staying.{handed_stays_sound, root_stays_sound, suspended_stays_sound}
 use Rattle.hall_parts.proofs.Taken.{on}
 use Rattle.hall_parts.proofs.Untaken.{nothing_is_taken}
-use Rattle.thread_frames.specs.Points.{IsAtPoint}
-use Rattle.thread_frames.specs.declared.ended.Ended.{Ended}
-use Rattle.thread_map.specs.Kept.{kept_under}
 use Rattle.hall_actions.specs.WithList.{IsNotedFor, IsReadyForList, IsWithList}
 use Rattle.hall_actions.specs.declared.with_list.ListEvent.{ListEvent}
-use Rattle.hall_actions.proofs.Handed.{its_point, is_listed, is_newest}
+use Rattle.hall_actions.proofs.Handed.{its_point, is_listed, is_newest, may_join}
 use Rattle.hall_actions.proofs.ListEvents.{given_up_may, left_there, nobody_there, none_there}
 use Rattle.hall_actions.proofs.Putting.{on_top_again}
+use Rattle.hall_actions.proofs.Readied.{may_end}
 use Rattle.hall_actions.proofs.Roomier.{crew_from, gone_from, has_from, leaves_from, shows_unowned_from, suspends_from}
 use Rattle.hall_actions.proofs.with_list.do_with_list.Goals as goal
 
@@ -40,17 +31,17 @@ returns-in-GiveUp-clause-writes c key seat given =
     let deque = c.args.deque in
     let now = c.args.list.now in
     let r = subst (IsReadyForList key seat deque now at (spare c.args.memory.now.births)) c.in-GiveUp.is given in
-    let gave = c.give_up_in in
+    let gave = c.give_up in
     let items = c.push_top.ensures.items in
     let lane : LaneSlot = record { lane = c.push_top.new.self; running = None } in
-    subst (λ (z : LaneSlot × Event × Option DequeId). MayPutListAndLane key seat deque gave.new.list z.0 (told_note seat.hand.note z.2 z.1))
+    subst (λ (z : LaneSlot × Event × Option DequeId). MayPutListAndLane key seat deque gave.new.self z.0 (told_note seat.hand.note z.2 z.1))
     (sym c.left.ensures)
     (given_up_may key seat deque (Does (GaveUp deque) None) r.is.quota r.goes r.counting (on seat.hand.note None (GaveUp deque))
-    r.was now gave.new.list r.is.lane lane r.more r.can.2 gave.ensures.places gave.ensures.rest refl
+    r.was now gave.new.self r.is.lane lane r.more r.can.2 gave.ensures.places gave.ensures.rest refl
     (subst (Each (IsAtPoint (table_of key) (quota_of key))) (sym items) (r.is.point, r.is.under)) r.is.holds
-    (λ pool. give_ups_do key seat.hand.note.worker deque (parts r.was pool r.is.lane) (parts gave.new.list pool lane)
+    (λ pool. give_ups_do key seat.hand.note.worker deque (parts r.was pool r.is.lane) (parts gave.new.self pool lane)
     at.top at.lane.items at.running.worker at.running.period r.is.at refl refl items
-    (shows_unowned_from r.was now gave.new.list deque at.running r.more gave.ensures.shown) r.can.0 r.can.1))
+    (shows_unowned_from r.was now gave.new.self deque at.running r.more gave.ensures.shown) r.can.0 r.can.1))
 
 pub returns-in-Dummy-clause-writes : goal.returns-in-Dummy-clause-writes
 returns-in-Dummy-clause-writes c key seat given =
@@ -58,19 +49,19 @@ returns-in-Dummy-clause-writes c key seat given =
     let deque = c.args.deque in
     let now = c.args.list.now in
     let r = subst (IsReadyForList key seat deque now at (spare c.args.memory.now.births)) c.in-Dummy.is given in
-    let gave = c.give_up_in-in-Dummy in
+    let gave = c.give_up-in-Dummy in
     let done = c.do_dummy-name in
     let did = done.ensures.acts in
     let running : Running = record { worker = at.running.worker; period = done.new.period } in
     let lane : LaneSlot = record { lane = done.new.lane; running = None } in
-    subst (λ (z : LaneSlot × Event × Option DequeId). MayPutListAndLane key seat deque gave.new.list z.0 (told_note seat.hand.note z.2 z.1))
+    subst (λ (z : LaneSlot × Event × Option DequeId). MayPutListAndLane key seat deque gave.new.self z.0 (told_note seat.hand.note z.2 z.1))
     (sym c.left-in-Dummy.ensures)
     (given_up_may key seat deque (Does (Did done.result) None) r.is.quota r.goes r.counting (on seat.hand.note None (Did done.result))
-    r.was now gave.new.list r.is.lane lane r.more r.can.0 gave.ensures.places gave.ensures.rest refl
+    r.was now gave.new.self r.is.lane lane r.more r.can.0 gave.ensures.places gave.ensures.rest refl
     (on_top_again key at.top did.now at.lane.items done.new.lane.items did.threads_are did.point r.is.point r.is.under) r.is.holds
-    (λ pool. dummies_do key seat.hand.note.worker deque (parts r.was pool r.is.lane) (parts gave.new.list pool lane)
+    (λ pool. dummies_do key seat.hand.note.worker deque (parts r.was pool r.is.lane) (parts gave.new.self pool lane)
     at.top at.lane.items at.running.worker at.running.period r.is.at refl refl done.result done.new.period did
-    (shows_unowned_from r.was now gave.new.list deque running r.more gave.ensures.shown) r.can.2))
+    (shows_unowned_from r.was now gave.new.self deque running r.more gave.ensures.shown) r.can.2))
 
 pub returns-in-Wait-clause-writes : goal.returns-in-Wait-clause-writes
 returns-in-Wait-clause-writes c key seat given =
@@ -79,7 +70,7 @@ returns-in-Wait-clause-writes c key seat given =
     let now = c.args.list.now in
     let child = c.in-Wait.child in
     let r = subst (IsReadyForList key seat deque now at (spare c.args.memory.now.births)) c.in-Wait.is given in
-    let gone = c.suspend_in in
+    let gone = c.suspend in
     let alone = r.can.0 in
     let closes = r.can.1 in
     let waits = r.can.2 in
@@ -111,7 +102,7 @@ returns-in-Join-clause-writes c key seat given =
     let joins = r.can.0 in
     let done = c.do_join-name in
     let did = done.ensures.acts in
-    let over = c.hand_over_in in
+    let over = c.hand_over in
     let come = over.ensures.come in
     let point = its_point key now at.top child joins over.new.list.part.results over.new.top come r.is.point in
     let lane : LaneSlot = record { lane = done.new.lane; running = Some (record { worker = at.running.worker; period = done.new.period }) } in
@@ -140,7 +131,7 @@ returns-in-RootEnd-clause-writes c key seat given =
     let name = ends.result.0 in
     let ended = ends.result.1 in
     let did = ends.ensures.acts in
-    let gone = c.leave_in.new.list in
+    let gone = c.leave_result.new.list in
     let finish = c.finish_of-finish.result in
     let list : ListSlot = record gone { end = Some (Finished finish) } in
     let running : Running = record { worker = at.running.worker; period = ends.new.period } in
@@ -148,44 +139,31 @@ returns-in-RootEnd-clause-writes c key seat given =
     let root_id : Ended.id ended ≡ root = did.id ∙ can.root_id in
     let id_is = c.id_of-id.ensures ∙ can.root_id in
     let no_end = sym more.deques.end ∙ can.no_end in
-    subst (λ (z : LaneSlot × Event × Option DequeId). MayPutListAndLane key seat deque c.keep_finish.new.list z.0 (told_note seat.hand.note z.2 z.1))
+    subst (λ (z : LaneSlot × Event × Option DequeId). MayPutListAndLane key seat deque list z.0 (told_note seat.hand.note z.2 z.1))
     (sym c.left-in-RootEnd.ensures)
-    (subst (λ (l : ListSlot). MayPutListAndLane key seat deque l lane (told_note seat.hand.note None (Did name))) (sym c.keep_finish.ensures)
     (list_may key seat deque (Does (Did name) None) r.is.quota r.goes r.counting r.is.lane lane was list r.is.holds
     (λ pool. root_ends_do key seat.hand.note.worker deque (parts was pool r.is.lane) (parts list pool lane)
     at.top at.lane.items at.running.worker at.running.period r.is.at name ends.new.period can.alone ended did
     (nobody_there was now more at.top.id can.leaves) can.alone refl gone
-    (leaves_from was now gone deque running ended more c.leave_in.ensures.shown) finish refl refl can.root_label no_end can.listed)
+    (leaves_from was now gone deque running ended more c.leave_result.ensures.shown) finish refl refl can.root_label no_end can.listed)
     (λ pool. root_stays_sound key seat deque was gone pool r.is.lane lane (told_note seat.hand.note None (Did name))
     can.closes.owner ended finish (on seat.hand.note None (Did name))
     (has_from was now deque can.closes.owner more.deques can.closes.has)
-    (gone_from was now gone deque more.deques c.leave_in.ensures.places)
-    (crew_from was now gone deque more.deques c.leave_in.ensures.rest)
-    (left_there was now more gone c.id_of-id.result root ended id_is c.leave_in.ensures.results)
-    (subst (λ (i : ThreadId). kept_under gone.part.results i ≡ Some ended) id_is c.leave_in.ensures.kept)
-    (c.leave_in.ensures.waiting ∙ more.waiting) root_id
-    (did.result (table_of key) (quota_of key) r.is.point) can.alone refl no_end c.finish_of-finish.ensures)))
-
-pub give_up_in-requires : goal.give_up_in-requires
-give_up_in-requires c = (subst (IsWithList c.requires.can.0 c.args.deque c.args.list.now c.args.at) c.in-GiveUp.is c.requires.can.2).2
-
-pub give_up_in-requires-in-Dummy : goal.give_up_in-requires-in-Dummy
-give_up_in-requires-in-Dummy c = (subst (IsWithList c.requires.can.0 c.args.deque c.args.list.now c.args.at) c.in-Dummy.is c.requires.can.2).0
+    (gone_from was now gone deque more.deques c.leave_result.ensures.places)
+    (crew_from was now gone deque more.deques c.leave_result.ensures.rest)
+    (left_there was now more gone c.id_of-id.result root ended id_is c.leave_result.ensures.results)
+    (subst (λ (i : ThreadId). kept_under gone.part.results i ≡ Some ended) id_is c.leave_result.ensures.kept)
+    (c.leave_result.ensures.waiting ∙ more.waiting) root_id
+    (did.result (table_of key) (quota_of key) r.is.point) can.alone refl no_end c.finish_of-finish.ensures))
 
 pub do_dummy-name-requires-clause-next : goal.do_dummy-name-requires-clause-next
 do_dummy-name-requires-clause-next c = (subst (IsWithList c.requires.can.0 c.args.deque c.args.list.now c.args.at) c.in-Dummy.is c.requires.can.2).1
 
-pub suspend_in-requires-clause-closes : goal.suspend_in-requires-clause-closes
-suspend_in-requires-clause-closes c = (subst (IsWithList c.requires.can.0 c.args.deque c.args.list.now c.args.at) c.in-Wait.is c.requires.can.2).1
+pub suspend-requires-clause-room : goal.suspend-requires-clause-room
+suspend-requires-clause-room c = (subst (IsWithList c.requires.can.0 c.args.deque c.args.list.now c.args.at) c.in-Wait.is c.requires.can.2).2.room
 
-pub suspend_in-requires-clause-room : goal.suspend_in-requires-clause-room
-suspend_in-requires-clause-room c = (subst (IsWithList c.requires.can.0 c.args.deque c.args.list.now c.args.at) c.in-Wait.is c.requires.can.2).2.room
-
-pub suspend_in-requires-clause-free : goal.suspend_in-requires-clause-free
-suspend_in-requires-clause-free c = (subst (IsWithList c.requires.can.0 c.args.deque c.args.list.now c.args.at) c.in-Wait.is c.requires.can.2).2.free
-
-pub hand_over_in-requires : goal.hand_over_in-requires
-hand_over_in-requires c = (c.requires.can.0, (subst (IsWithList c.requires.can.0 c.args.deque c.args.list.now c.args.at) c.in-Join.is c.requires.can.2).0)
+pub suspend-requires-clause-free : goal.suspend-requires-clause-free
+suspend-requires-clause-free c = (subst (IsWithList c.requires.can.0 c.args.deque c.args.list.now c.args.at) c.in-Wait.is c.requires.can.2).2.free
 
 pub end_root-ended-requires-clause-next : goal.end_root-ended-requires-clause-next
 end_root-ended-requires-clause-next c = (subst (IsWithList c.requires.can.0 c.args.deque c.args.list.now c.args.at) c.in-RootEnd.is c.requires.can.2).next
@@ -193,14 +171,11 @@ end_root-ended-requires-clause-next c = (subst (IsWithList c.requires.can.0 c.ar
 pub end_root-ended-requires-clause-root : goal.end_root-ended-requires-clause-root
 end_root-ended-requires-clause-root c = (subst (IsWithList c.requires.can.0 c.args.deque c.args.list.now c.args.at) c.in-RootEnd.is c.requires.can.2).root_label
 
-pub leave_in-requires-clause-closes : goal.leave_in-requires-clause-closes
-leave_in-requires-clause-closes c = (subst (IsWithList c.requires.can.0 c.args.deque c.args.list.now c.args.at) c.in-RootEnd.is c.requires.can.2).closes
+pub leave_result-requires-clause-room : goal.leave_result-requires-clause-room
+leave_result-requires-clause-room c = (subst (IsWithList c.requires.can.0 c.args.deque c.args.list.now c.args.at) c.in-RootEnd.is c.requires.can.2).leaves.room
 
-pub leave_in-requires-clause-room : goal.leave_in-requires-clause-room
-leave_in-requires-clause-room c = (subst (IsWithList c.requires.can.0 c.args.deque c.args.list.now c.args.at) c.in-RootEnd.is c.requires.can.2).leaves.room
-
-pub leave_in-requires-clause-free : goal.leave_in-requires-clause-free
-leave_in-requires-clause-free c = let can = subst (IsWithList c.requires.can.0 c.args.deque c.args.list.now c.args.at) c.in-RootEnd.is c.requires.can.2 in
+pub leave_result-requires-clause-free : goal.leave_result-requires-clause-free
+leave_result-requires-clause-free c = let can = subst (IsWithList c.requires.can.0 c.args.deque c.args.list.now c.args.at) c.in-RootEnd.is c.requires.can.2 in
     subst (λ (i : ThreadId). kept_under c.args.list.now.part.results i ≡ None) (sym c.id_of-id.ensures) can.leaves.free
 
 pub returns-in-GiveUp-clause-notes : goal.returns-in-GiveUp-clause-notes
@@ -224,12 +199,37 @@ returns-in-Join-clause-notes c =
     subst (λ (e : ListEvent). IsNotedFor e c.args.deque c.args.at.top (Did c.do_join-name.result) (Some c.args.deque)) (sym c.in-Join.is)
     (c.do_join-name.result, refl, refl)
 
-pub do_join-name-requires-clause-placed : goal.do_join-name-requires-clause-placed
-do_join-name-requires-clause-placed c =
-    let key = c.requires.can.0 in let joins = (subst (IsWithList c.requires.can.0 c.args.deque c.args.list.now c.args.at) c.in-Join.is c.requires.can.2).0 in
-    ∣ (
-      table_of key,
-      quota_of key,
-      its_point key c.args.list.now c.args.at.top c.in-Join.child joins c.hand_over_in.new.list.part.results c.hand_over_in.new.top
-          c.hand_over_in.ensures.come c.requires.can.1,
-    ) ∣₁
+pub give_up-requires-clause-has : goal.give_up-requires-clause-has
+give_up-requires-clause-has c = let closes = (subst (IsWithList c.requires.can.0 c.args.deque c.args.list.now c.args.at) c.in-GiveUp.is c.requires.can.2).2 in (closes.owner, closes.has)
+
+pub give_up-requires-clause-room : goal.give_up-requires-clause-room
+give_up-requires-clause-room c = (subst (IsWithList c.requires.can.0 c.args.deque c.args.list.now c.args.at) c.in-GiveUp.is c.requires.can.2).2.books
+
+pub give_up-requires-in-Dummy-clause-has : goal.give_up-requires-in-Dummy-clause-has
+give_up-requires-in-Dummy-clause-has c = let closes = (subst (IsWithList c.requires.can.0 c.args.deque c.args.list.now c.args.at) c.in-Dummy.is c.requires.can.2).0 in (closes.owner, closes.has)
+
+pub give_up-requires-in-Dummy-clause-room : goal.give_up-requires-in-Dummy-clause-room
+give_up-requires-in-Dummy-clause-room c = (subst (IsWithList c.requires.can.0 c.args.deque c.args.list.now c.args.at) c.in-Dummy.is c.requires.can.2).0.books
+
+pub suspend-requires-clause-has : goal.suspend-requires-clause-has
+suspend-requires-clause-has c = let closes = (subst (IsWithList c.requires.can.0 c.args.deque c.args.list.now c.args.at) c.in-Wait.is c.requires.can.2).1 in (closes.owner, closes.has)
+
+pub suspend-requires-clause-books : goal.suspend-requires-clause-books
+suspend-requires-clause-books c = (subst (IsWithList c.requires.can.0 c.args.deque c.args.list.now c.args.at) c.in-Wait.is c.requires.can.2).1.books
+
+pub leave_result-requires-clause-has : goal.leave_result-requires-clause-has
+leave_result-requires-clause-has c = let closes = (subst (IsWithList c.requires.can.0 c.args.deque c.args.list.now c.args.at) c.in-RootEnd.is c.requires.can.2).closes in (closes.owner, closes.has)
+
+pub leave_result-requires-clause-books : goal.leave_result-requires-clause-books
+leave_result-requires-clause-books c = (subst (IsWithList c.requires.can.0 c.args.deque c.args.list.now c.args.at) c.in-RootEnd.is c.requires.can.2).closes.books
+
+pub hand_over-requires : goal.hand_over-requires
+hand_over-requires c = (c.requires.can.0, (subst (IsWithList c.requires.can.0 c.args.deque c.args.list.now c.args.at) c.in-Join.is c.requires.can.2).0)
+
+pub do_join-name-requires-clause-may : goal.do_join-name-requires-clause-may
+do_join-name-requires-clause-may c = may_join c.requires.can.0 c.args.list.now c.args.at.top c.in-Join.child (subst (IsWithList c.requires.can.0 c.args.deque c.args.list.now c.args.at) c.in-Join.is c.requires.can.2).0
+    c.hand_over.new.list.part.results c.hand_over.new.top c.hand_over.ensures.come c.requires.can.1 c.args.at.lane c.args.at.running.period
+    c.args.memory.now.births c.requires.may
+
+pub end_root-ended-requires-clause-may : goal.end_root-ended-requires-clause-may
+end_root-ended-requires-clause-may c = may_end c.requires.may

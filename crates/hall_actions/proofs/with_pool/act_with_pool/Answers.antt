@@ -1,21 +1,13 @@
 use Rattle.std.proofs.Common.{refl}
 use Rattle.std.specs.Prelude.{Some}
 use Rattle.containers.specs.BoundedList.{spare}
-use Rattle.turn_table.specs.Tables.{key_of}
-use Rattle.hall_slots.specs.Shown.{pool_shown}
-use Rattle.hall_slots.specs.declared.lane_slot.LaneSlot.{LaneSlot}
+use Rattle.hall_parts.specs.HallNames.{key_of, pool_shown, LaneSlot}
 use Rattle.hall_parts.specs.Writes.{parts}
 use Rattle.hall_actions.proofs.Pooled.{with_pool_do}
 use Rattle.hall_actions.proofs.Putting.{acted}
-use Rattle.hall_actions.proofs.Readied.{placed, count}
+use Rattle.hall_actions.proofs.Readied.{may_do}
 use Rattle.hall_actions.proofs.Roomier.{takes_from}
 use Rattle.hall_actions.proofs.with_pool.act_with_pool.Goals as goal
-
-pub do_with_pool-name-requires-clause-placed : goal.do_with_pool-name-requires-clause-placed
-do_with_pool-name-requires-clause-placed c = placed _ _ _ _ _ _ _ _ c.requires.ready.2
-
-pub do_with_pool-name-requires-clause-count : goal.do_with_pool-name-requires-clause-count
-do_with_pool-name-requires-clause-count c = count _ _ _ _ _ _ _ _ c.requires.ready.2
 
 pub put_pool_and_lane-requires-clause-may : goal.put_pool_and_lane-requires-clause-may
 put_pool_and_lane-requires-clause-may c =
@@ -32,3 +24,8 @@ put_pool_and_lane-requires-clause-may c =
     (takes_from c.args.next at.top done.result ready.0 c.args.pool (pool_shown pool) ready.1 done.ensures.words) c.requires.uses.may)
     (done.ensures.sound (key_of c.args.row.now) c.requires.pool.sound)
     (done.ensures.points (key_of c.args.row.now) ready.2.point ready.2.under)
+
+pub do_with_pool-name-requires-clause-may : goal.do_with_pool-name-requires-clause-may
+do_with_pool-name-requires-clause-may c =
+    let may = may_do _ _ _ _ _ _ _ _ c.requires.ready.2 c.requires.none in
+    record { placed = may.placed; count = may.count; room = may.room; none = may.none; fits = c.requires.uses.fits }

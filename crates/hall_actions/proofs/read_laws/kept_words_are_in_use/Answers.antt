@@ -1,5 +1,0 @@
-use Rattle.hall_actions.proofs.InUse as law
-use Rattle.hall_actions.proofs.read_laws.kept_words_are_in_use.Goals as goal
-
-pub returns : goal.returns
-returns c = law.kept_words_are_in_use

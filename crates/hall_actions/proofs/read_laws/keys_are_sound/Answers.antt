@@ -1,5 +1,0 @@
-use Rattle.hall_actions.proofs.Reading as law
-use Rattle.hall_actions.proofs.read_laws.keys_are_sound.Goals as goal
-
-pub returns : goal.returns
-returns c = law.keys_are_sound
