@@ -8,14 +8,12 @@ use Rattle.depth_first_list.specs.Actions.{Deed, allocates}
 use Rattle.depth_first_list.specs.Facts.{words_at}
 use Rattle.depth_first_run.specs.Run.{list_of}
 use Rattle.hall_actions.specs.Passed.EventParts.{MayDoNext}
-use Rattle.hall_slots.specs.Keys.{quota_of}
-use Rattle.hall_slots.specs.declared.key.HallKey.{HallKey}
+use Rattle.hall_actions.specs.Passed.HallNames.{quota_of, HallKey, Next}
 use Rattle.hall_slots.specs.Passed.Books.{charge}
 use Rattle.thread_frames.specs.Passed.Events.{MayDo}
 use Rattle.hall_actions.specs.declared.at_next.AtNext.{AtNext}
 use Rattle.hall_owner.specs.Taking.{AsksByTheList}
 use Rattle.hall_actions.specs.WithPool.{words_asked_by}
-use Rattle.thread_frames.specs.declared.next.Next.{Next}
 use Rattle.thread_frames.specs.declared.next.Next.TheVariants.{Fork, Join, Alloc, Release, Dummy, Fault, End}
 
 pub asks_nothing : (key : HallKey) (at : AtNext) (next : Next) → words_asked_by next ≡ 0 → AsksByTheList key at next

@@ -1,15 +1,11 @@
 -- A seat that was refused its lane, or that took it and was refused the list.
 use Rattle.std.proofs.Common.{◌≡◌, ℕ, ◌+◌, List, [], ◌∷◌, ◌++◌, inl, inr, refl, sym, ap, ◌∙◌, append_assoc}
-use Rattle.deque_list.specs.declared.deque_id.DequeId.{DequeId}
+use Rattle.hall_actions.specs.Passed.HallNames.{DequeId, HallSeat, IsGiven, IsRefused, IsTaken, LaneSlot, Slot, with_hand}
 use Rattle.turn_table.specs.declared.held.Held.{Held}
 use Rattle.turn_table.specs.declared.look.Look.TheVariants.{Refused}
 use Rattle.turn_table.specs.Hands.{gave, refused as refused_hand, renewed, without_slot}
-use Rattle.turn_table.specs.Seats.{with_hand}
 use Rattle.turn_table.proofs.Left.{left_of_one}
 use Rattle.turn_table.specs.Backs.{kept, still, unchanged}
-use Rattle.hall_slots.specs.Takes.{HallSeat, IsGiven, IsRefused, IsTaken}
-use Rattle.hall_slots.specs.declared.lane_slot.LaneSlot.{LaneSlot}
-use Rattle.hall_slots.specs.declared.slot.Slot.{Slot}
 use Rattle.hall_slots.specs.declared.slot.Slot.TheVariants as slots
 use Rattle.hall_actions.specs.Advancing.{took_lane}
 use Rattle.hall_owner.specs.Yielding.{IsBusy}

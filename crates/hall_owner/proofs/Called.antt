@@ -1,22 +1,17 @@
 -- What the whole call of an owner does and answers.
 use Rattle.std.proofs.Common.{◌≡◌, ℕ, ◌+◌, [], ◌∷◌, ◌++◌, inl, inr, refl, sym, ap, ◌∙◌}
 use Rattle.std.specs.Prelude.{Result, Ok, Err}
-use Rattle.deque_list.specs.declared.deque_id.DequeId.{DequeId}
-use Rattle.hall_slots.specs.Takes.{HallSeat, IsRefused, IsTaken}
-use Rattle.hall_slots.specs.declared.key.HallKey.{HallKey}
-use Rattle.hall_slots.specs.declared.lane_slot.LaneSlot.{LaneSlot}
+use Rattle.hall_actions.specs.Passed.HallNames.{DequeId, HallSeat, IsRefused, IsTaken, HallKey, LaneSlot, Next, with_hand}
 use Rattle.hall_slots.specs.declared.slot.Slot.TheVariants as slots
-use Rattle.hall_actions.specs.Advancing.{HasLooked, IsAtNext, took_lane}
+use Rattle.hall_actions.specs.Advancing.{HasCome, IsAtNext, took_lane}
 use Rattle.hall_actions.specs.declared.at_next.AtNext.{AtNext}
+use Rattle.hall_actions.specs.declared.memory.SeatMemory.{SeatMemory}
 use Rattle.hall_owner.proofs.Following.{leaves, looked, note}
 use Rattle.hall_owner.specs.Acting.{Acts, AtLane, Does}
-use Rattle.hall_owner.specs.Holding.{FailsBy, found_note, last_look, looks_of, refusal_note}
-use Rattle.hall_owner.specs.declared.acted.Acted.{Acted}
-use Rattle.hall_owner.specs.declared.refused.ActRefused.{ActRefused}
-use Rattle.hall_owner.specs.declared.refused.ActRefused.TheVariants.{Busy, Stopped}
-use Rattle.play_rules.specs.declared.stop.Stop.TheVariants.{OutOfMemory}
-use Rattle.thread_frames.specs.declared.next.Next.{Next}
-use Rattle.turn_table.specs.Seats.{with_hand}
+use Rattle.hall_owner.specs.Holding.{FailsBy, last_look, looks_of, refusal_note}
+use Rattle.hall_owner.specs.declared.acting.Acted.{Acted}
+use Rattle.hall_actions.specs.declared.refused.ActRefused.{ActRefused}
+use Rattle.hall_actions.specs.declared.refused.ActRefused.TheVariants.{Busy, Over, Stopped}
 use Rattle.turn_table.specs.declared.held.Held.{Held}
 use Rattle.turn_table.specs.declared.look.Look.TheVariants.{Refused}
 
@@ -61,7 +56,7 @@ acts key before middle deque lane at next ready taken is_next (Err refused) afte
 
 -- the lane that it was refused, and the way to its action, for which there was not enough memory
 module _ (before after : HallSeat) (deque : DequeId) where
-  pub refused_lane : (held : Held) → before.hand.holds ≡ [] → IsRefused before (deque.0 + 2) held after → FailsBy (AtLane deque) before (Busy held) after
+  refused_lane : (held : Held) → before.hand.holds ≡ [] → IsRefused before (deque.0 + 2) held after → FailsBy (AtLane deque) before (Busy held) after
   refused_lane held free refused = (
     Refused held.slot held.seen ∷ [],
     (refused.0, refl),
@@ -80,9 +75,11 @@ module _ (before after : HallSeat) (deque : DequeId) where
         })) free,
   )
 
-  pub short_of_action : (lane : LaneSlot) → HasLooked before (took_lane deque lane ∷ []) (found_note before.hand.note OutOfMemory) after
-      → FailsBy (AtLane deque) before (Stopped OutOfMemory) after
-  short_of_action lane looked = (took_lane deque lane ∷ [], (refl, (lane, refl)), looked)
+  pub refused_first : (key : HallKey) (memory : SeatMemory) (refused : ActRefused) → before.hand.holds ≡ [] → HasCome key before deque memory (Err refused) after
+      → FailsBy (AtLane deque) before refused after
+  refused_first key memory (Busy held) free come = refused_lane held free come
+  refused_first key memory (Over end) free come = absurd come
+  refused_first key memory (Stopped stop) free come = (took_lane deque come.1.0 ∷ [], (come.0, (come.1.0, refl)), come.1.1)
 
 -- what it notes, wherever it failed
 pub fails_note : (key : HallKey) (before : HallSeat) (deque : DequeId) (refused : ActRefused) (after : HallSeat) → Acts key before deque (Err refused) after

@@ -1,13 +1,12 @@
 -- What an owner asks for by its lane, and chooses by the list.
 use Rattle.std.proofs.Common.{inl, inr, sym, subst}
-use Rattle.hall_slots.specs.declared.key.HallKey.{HallKey}
+use Rattle.hall_actions.specs.Passed.HallNames.{HallKey, Next}
 use Rattle.hall_actions.specs.declared.at_next.AtNext.{AtNext}
 use Rattle.hall_owner.specs.Asked.{IsWantedOfList}
 use Rattle.hall_owner.specs.Decided.{ActionNeedsList}
 use Rattle.hall_owner.specs.Refusing.{AsksForList}
 use Rattle.hall_owner.specs.declared.wanted.ListWanted.{ListWanted}
 use Rattle.hall_owner.specs.declared.wanted.ListWanted.TheVariants.{GiveUp, Dummy, Kept, End}
-use Rattle.thread_frames.specs.declared.next.Next.{Next}
 
 -- it needs the list for its action, or since the quota is spent
 pub asks_for_list : (key : HallKey) (at : AtNext) (next : Next) (wanted : ListWanted) → IsWantedOfList key at next wanted → AsksForList key at next

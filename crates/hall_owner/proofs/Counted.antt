@@ -1,22 +1,16 @@
 -- A seat that may draw a count, and how it fails if there is none for it.
 use Rattle.std.proofs.Common.{◌≡◌, ℕ, ◌≤◌, List, [], ◌∷◌, ◌++◌, refl, sym, ap, ◌∙◌, subst}
 use Rattle.std.specs.Prelude.{Some}
-use Rattle.deque_list.specs.declared.deque_id.DequeId.{DequeId}
+use Rattle.hall_actions.specs.Passed.HallNames.{DequeId, HallSeat, HallKey, LaneSlot, Slot, Next, with_hand}
 use Rattle.play_rules.specs.declared.stop.Stop.{Stop}
 use Rattle.play_rules.specs.declared.stop.Stop.TheVariants.{StepsSpent}
-use Rattle.thread_frames.specs.declared.next.Next.{Next}
 use Rattle.turn_table.specs.declared.look.Look.TheVariants.{Counted}
-use Rattle.turn_table.specs.Seats.{with_hand}
 use Rattle.hall_slots.specs.Counting.{HasFoundSpent, MayDraw}
 use Rattle.hall_actions.specs.Passed.Puts.{HasPut}
 use Rattle.hall_actions.specs.Passed.EventParts.{MayGoOn}
-use Rattle.hall_slots.specs.Takes.{HallSeat}
-use Rattle.hall_slots.specs.declared.key.HallKey.{HallKey}
-use Rattle.hall_slots.specs.declared.lane_slot.LaneSlot.{LaneSlot}
-use Rattle.hall_slots.specs.declared.slot.Slot.{Slot}
 use Rattle.hall_actions.specs.declared.at_next.AtNext.{AtNext}
 use Rattle.hall_owner.specs.Holding.{AtCount, FailsBy, IsHolding, IsBefore}
-use Rattle.hall_owner.specs.declared.refused.ActRefused.TheVariants.{Stopped}
+use Rattle.hall_actions.specs.declared.refused.ActRefused.TheVariants.{Stopped}
 
 module _ (key : HallKey) (before : HallSeat) (deque : DequeId) (others : LaneSlot → List (ℕ × Slot)) (at : AtNext) (next : Next) (ready : ℕ)
     (is : IsBefore key before deque others at next ready) where

@@ -1,14 +1,10 @@
 -- What the next action of an owner asks for, by what it may do.
 use Rattle.std.proofs.Common.{◌≡◌, ◌≢◌, ℕ, ◌+◌, ◌<◌, true, false, [], ◌∷◌, sym, ap, ◌∙◌, subst}
 use Rattle.std.specs.Prelude.{IsTrue}
-use Rattle.dag_order.specs.declared.thread_id.ThreadId.{ThreadId}
-use Rattle.deque_list.specs.declared.deque_id.DequeId.{DequeId}
+use Rattle.hall_actions.specs.Passed.HallNames.{DequeId, quota_of, HallSeat, IsTaken, MeetsLaw, HallKey, LaneSlot, ThreadId, is_there, is_delivered, children_of}
+use Rattle.hall_actions.specs.Passed.HallNames.{newest, Next, Thread}
 use Rattle.hall_actions.specs.Passed.Taken.{its_lane}
 use Rattle.hall_actions.proofs.Joining.{joins_are_read}
-use Rattle.hall_slots.specs.Keys.{quota_of}
-use Rattle.hall_slots.specs.Takes.{HallSeat, IsTaken, MeetsLaw}
-use Rattle.hall_slots.specs.declared.key.HallKey.{HallKey}
-use Rattle.hall_slots.specs.declared.lane_slot.LaneSlot.{LaneSlot}
 use Rattle.hall_slots.specs.declared.slot.Slot.TheVariants as slots
 use Rattle.hall_actions.proofs.Charging.{ready_may_be_done}
 use Rattle.hall_actions.specs.Quotas.{MayUse}
@@ -23,12 +19,7 @@ use Rattle.hall_owner.specs.Ready.{IsReadyTo}
 use Rattle.hall_owner.proofs.Following.{note}
 use Rattle.thread_actions.specs.Readiness.{IsReadiness}
 use Rattle.thread_actions.specs.declared.readiness.Readiness.TheVariants.{Ready, Missing}
-use Rattle.thread_frames.specs.Actions.{is_there}
-use Rattle.thread_frames.specs.Children.{is_delivered}
-use Rattle.thread_frames.specs.Views.{children_of, newest}
-use Rattle.thread_frames.specs.declared.next.Next.{Next}
 use Rattle.thread_frames.specs.declared.next.Next.TheVariants.{Fork, Join, Alloc, Release, Dummy, Fault, End}
-use Rattle.thread_frames.specs.declared.thread.Thread.{Thread}
 
 -- a Join whose result is missing
 pub missing_is : (used k : ℕ) (top : Thread) (next : Next) (child : ThreadId) → IsReadiness used k top next (Missing child)

@@ -2,12 +2,11 @@
 use Rattle.std.proofs.Common.{◌≡◌, ◌≢◌, ℕ, ◌<◌, List, [], length, sym, ap, ◌∙◌, subst, arith}
 use Rattle.std.specs.Result.{IsErrAnd}
 use Rattle.std.specs.Prelude.{Result, Ok, Err, MatchResult, OnOk}
-use Rattle.thread_frames.specs.declared.thread.Thread.{Thread}
+use Rattle.hall_actions.specs.Passed.HallNames.{Thread, IsSeatOf}
 use Rattle.turn_table.specs.Seats.{SeatView, with_hand}
-use Rattle.turn_table.specs.Tables.{IsSeatOf}
 use Rattle.turn_table.specs.declared.hand.Hand.{Hand}
 use Rattle.turn_table.specs.declared.turns.Turns.{Turns}
-use Rattle.hall_owner.specs.declared.refused.ActRefused.{ActRefused}
+use Rattle.hall_actions.specs.declared.refused.ActRefused.{ActRefused}
 
 -- an exit by `?`
 pub exit : {T : Type 0} (P : Result T ActRefused → Type 0) (r : Result T ActRefused) (refused : ActRefused) → IsErrAnd r (λ y. y ≡ refused)

@@ -1,9 +1,8 @@
 -- How a seat fails, by the answers that it had since.
 use Rattle.std.proofs.Common.{◌≡◌, ◌∙◌, Bool, true, false, true≢false, List, sym}
-use Rattle.hall_slots.specs.Takes.{HallSeat}
-use Rattle.hall_slots.specs.declared.slot.Slot.{Slot}
+use Rattle.hall_actions.specs.Passed.HallNames.{HallSeat, Slot}
 use Rattle.hall_owner.specs.Holding.{FailsBy}
-use Rattle.hall_owner.specs.declared.refused.ActRefused.{ActRefused}
+use Rattle.hall_actions.specs.declared.refused.ActRefused.{ActRefused}
 use Rattle.turn_table.specs.declared.look.Look.{Look}
 
 -- what these answers show, others may show too

@@ -1,22 +1,14 @@
 -- A seat that took some slots more: what it holds, and how it leaves and fails then.
 use Rattle.std.proofs.Common.{◌≡◌, ℕ, List, [], ◌++◌, sym, ap, ◌∙◌, subst, append_assoc, append-nil}
 use Rattle.std.specs.Prelude.{Option}
-use Rattle.deque_list.specs.declared.deque_id.DequeId.{DequeId}
-use Rattle.thread_frames.specs.declared.next.Next.{Next}
+use Rattle.hall_actions.specs.Passed.HallNames.{DequeId, HallSeat, HasAllPlaces, Event, HallKey, LaneSlot, SeatNote, Slot, Next, with_hand}
 use Rattle.turn_table.specs.declared.look.Look.{Look}
-use Rattle.turn_table.specs.Seats.{with_hand}
 use Rattle.hall_actions.specs.Passed.EventParts.{MayGoOn}
 use Rattle.hall_actions.specs.Passed.Writes.{told_note}
-use Rattle.hall_slots.specs.Takes.{HallSeat, HasAllPlaces}
-use Rattle.hall_slots.specs.declared.event.Event.{Event}
-use Rattle.hall_slots.specs.declared.key.HallKey.{HallKey}
-use Rattle.hall_slots.specs.declared.lane_slot.LaneSlot.{LaneSlot}
-use Rattle.hall_slots.specs.declared.seat_note.SeatNote.{SeatNote}
-use Rattle.hall_slots.specs.declared.slot.Slot.{Slot}
 use Rattle.hall_actions.specs.Advancing.{HasLooked}
 use Rattle.hall_actions.specs.declared.at_next.AtNext.{AtNext}
 use Rattle.hall_owner.specs.Holding.{FailsBy, IsHolding, IsBefore, refusal_note}
-use Rattle.hall_owner.specs.declared.refused.ActRefused.{ActRefused}
+use Rattle.hall_actions.specs.declared.refused.ActRefused.{ActRefused}
 
 -- what it holds then, and its answers
 abbrev pub seen_by : HallSeat → List (ℕ × Slot) → List (Look Slot) → HallSeat

@@ -2,29 +2,18 @@
 use Rattle.std.proofs.Common.{◌≡◌, ◌≤◌, false, List, [], sym, ap, ◌∙◌, subst}
 use Rattle.std.specs.Prelude.{None, Some}
 use Rattle.dag_order.specs.Births.{root}
-use Rattle.dag_order.specs.declared.thread_id.ThreadId.{ThreadId}
-use Rattle.deque_list.specs.declared.deque_id.DequeId.{DequeId}
-use Rattle.hall_slots.specs.Passed.Lists.{Each}
+use Rattle.hall_actions.specs.Passed.HallNames.{DequeId, Each, HallSeat, MeetsLaw, HallKey, LaneSlot, ListSlot, ThreadId, is_delivered, children_of, label_of}
+use Rattle.hall_actions.specs.Passed.HallNames.{next_of, Ended, Thread, kept_under, HasAs}
 use Rattle.hall_slots.specs.Passed.Parts.{Has}
 use Rattle.space_ledger.specs.BooksList.{books_spare}
-use Rattle.thread_frames.specs.Children.{is_delivered}
 use Rattle.thread_frames.specs.Kept.{WaitsUnder, IsUnderItsId}
-use Rattle.thread_frames.specs.Views.{children_of, label_of, next_of}
-use Rattle.thread_frames.specs.declared.ended.Ended.{Ended}
 use Rattle.thread_frames.specs.declared.next.Next.TheVariants as nexts
-use Rattle.thread_frames.specs.declared.thread.Thread.{Thread}
-use Rattle.thread_map.specs.Kept.{kept_under}
-use Rattle.turn_table.specs.Notes.{HasAs}
 use Rattle.hall_actions.specs.Passed.Rooms.{KeepsDeques, HasMoreToLeave, HasMoreToWait}
 use Rattle.hall_actions.proofs.Ending.{leaves_are_read}
 use Rattle.hall_actions.proofs.Joining.{joins_are_read, waits_are_read, results_are_awaited}
 use Rattle.hall_actions.proofs.Listing.{lists_are_read}
 use Rattle.hall_actions.specs.Lists.{ComesTo, ReadsJoin, ReadsLeave, ReadsList, ReadsWait}
 use Rattle.hall_actions.specs.Reads.{HoldsItsLane}
-use Rattle.hall_slots.specs.Takes.{HallSeat, MeetsLaw}
-use Rattle.hall_slots.specs.declared.key.HallKey.{HallKey}
-use Rattle.hall_slots.specs.declared.lane_slot.LaneSlot.{LaneSlot}
-use Rattle.hall_slots.specs.declared.list_slot.ListSlot.{ListSlot}
 use Rattle.hall_slots.specs.declared.slot.Slot.TheVariants as slots
 use Rattle.hall_actions.specs.Ends.{CanLeave, CanWake}
 use Rattle.hall_actions.specs.Kept.{CanJoinKept}

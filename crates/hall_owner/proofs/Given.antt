@@ -1,22 +1,12 @@
 -- A lane whose top thread came to its next action may go back.
 use Rattle.std.proofs.Common.{◌≡◌, ℕ, List, ◌∷◌, sym, subst}
 use Rattle.std.specs.Prelude.{Some}
-use Rattle.deque_list.specs.declared.deque_id.DequeId.{DequeId}
-use Rattle.hall_slots.specs.Passed.Lists.{Each}
-use Rattle.thread_frames.specs.Points.{IsAtPoint}
-use Rattle.thread_frames.specs.declared.next.Next.{Next}
+use Rattle.hall_actions.specs.Passed.HallNames.{DequeId, Each, table_of, quota_of, HallSeat, HallKey, LaneSlot, ListSlot, PoolSlot, Slot, IsAtPoint, Next}
 use Rattle.hall_actions.specs.Passed.Own.{IsStillThere}
 use Rattle.hall_actions.specs.Passed.Rooms.{HasMoreRoom, IsSamePool}
 use Rattle.hall_actions.specs.Passed.Writes.{Parts, parts}
 use Rattle.hall_actions.specs.Passed.Taken.{its_lane, pool_and_lane, list_and_lane, all_three}
 use Rattle.hall_actions.specs.Passed.Noting.{Noting}
-use Rattle.hall_slots.specs.Keys.{table_of, quota_of}
-use Rattle.hall_slots.specs.Takes.{HallSeat}
-use Rattle.hall_slots.specs.declared.key.HallKey.{HallKey}
-use Rattle.hall_slots.specs.declared.lane_slot.LaneSlot.{LaneSlot}
-use Rattle.hall_slots.specs.declared.list_slot.ListSlot.{ListSlot}
-use Rattle.hall_slots.specs.declared.pool_slot.PoolSlot.{PoolSlot}
-use Rattle.hall_slots.specs.declared.slot.Slot.{Slot}
 use Rattle.hall_actions.proofs.Readable.{shows_the_same}
 use Rattle.hall_actions.specs.declared.at_next.AtNext.{AtNext}
 use Rattle.hall_actions.specs.Returning.{MayNote, ReturnsLane, ReturnsPool, ReturnsList, ReturnsAll}

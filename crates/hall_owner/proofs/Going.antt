@@ -1,12 +1,8 @@
 -- A seat that took what its event needs, and what came of it.
 use Rattle.std.proofs.Common.{◌≡◌, ℕ, [], ◌∷◌, ◌++◌, sym, ap, ◌∙◌, subst, append_assoc}
 use Rattle.std.specs.Prelude.{None, Result, Ok, Err}
-use Rattle.deque_list.specs.declared.deque_id.DequeId.{DequeId}
-use Rattle.hall_slots.specs.Takes.{HallSeat, IsTaken}
+use Rattle.hall_actions.specs.Passed.HallNames.{DequeId, HallSeat, IsTaken, HallKey, ListSlot, SeatNote, Next, with_hand}
 use Rattle.hall_slots.specs.declared.event.Event.TheVariants.{Did}
-use Rattle.hall_slots.specs.declared.key.HallKey.{HallKey}
-use Rattle.hall_slots.specs.declared.list_slot.ListSlot.{ListSlot}
-use Rattle.hall_slots.specs.declared.seat_note.SeatNote.{SeatNote}
 use Rattle.hall_slots.specs.declared.slot.Slot.TheVariants as slots
 use Rattle.hall_actions.specs.declared.at_next.AtNext.{AtNext}
 use Rattle.hall_actions.specs.Advancing.{HasLooked}
@@ -23,12 +19,10 @@ use Rattle.hall_owner.specs.Ready.{IsReadyFor}
 use Rattle.hall_owner.specs.Refusing.{IsRefusal}
 use Rattle.hall_owner.specs.Taken.{held_with, list_in, looks_in, pool_in, slots_of}
 use Rattle.hall_owner.specs.Taking.{HasTaken, TakesFor, TakesPoolToo}
-use Rattle.hall_owner.specs.declared.acted.Acted.{Acted}
-use Rattle.hall_owner.specs.declared.refused.ActRefused.{ActRefused}
+use Rattle.hall_owner.specs.declared.acting.Acted.{Acted}
+use Rattle.hall_actions.specs.declared.refused.ActRefused.{ActRefused}
 use Rattle.hall_owner.specs.declared.taken.Taken.{Taken}
 use Rattle.hall_owner.specs.declared.taken.Taken.TheVariants.{WithAll}
-use Rattle.thread_frames.specs.declared.next.Next.{Next}
-use Rattle.turn_table.specs.Seats.{with_hand}
 use Rattle.turn_table.specs.declared.look.Look.TheVariants.{Took}
 
 -- it took the list, and then the pool

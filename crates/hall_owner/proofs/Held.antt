@@ -1,17 +1,9 @@
 -- What an owner has in its hands, in the words of the events and of what it may read.
 use Rattle.std.proofs.Common.{ℕ, ◌+◌, ◌≤◌, List, inl, inr, refl, sym, subst, arith}
-use Rattle.deque_list.specs.declared.deque_id.DequeId.{DequeId}
-use Rattle.thread_frames.specs.declared.next.Next.{Next}
-use Rattle.turn_table.specs.Notes.{HasAs}
+use Rattle.hall_actions.specs.Passed.HallNames.{DequeId, HallSeat, HallKey, LaneSlot, ListSlot, PoolSlot, Slot, Next, HasAs}
 use Rattle.hall_actions.specs.Passed.Taken.{its_lane, pool_and_lane, list_and_lane, all_three}
 use Rattle.hall_actions.specs.Lists.{ComesTo}
 use Rattle.hall_actions.specs.Reads.{HoldsItsLane}
-use Rattle.hall_slots.specs.Takes.{HallSeat}
-use Rattle.hall_slots.specs.declared.key.HallKey.{HallKey}
-use Rattle.hall_slots.specs.declared.lane_slot.LaneSlot.{LaneSlot}
-use Rattle.hall_slots.specs.declared.list_slot.ListSlot.{ListSlot}
-use Rattle.hall_slots.specs.declared.pool_slot.PoolSlot.{PoolSlot}
-use Rattle.hall_slots.specs.declared.slot.Slot.{Slot}
 use Rattle.hall_slots.specs.declared.slot.Slot.TheVariants as slots
 use Rattle.hall_actions.specs.Ready.{IsReady}
 use Rattle.hall_actions.specs.declared.at_next.AtNext.{AtNext}

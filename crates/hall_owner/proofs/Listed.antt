@@ -1,10 +1,7 @@
 -- An owner that took the list may do the event for which its next action asks, by what is kept there.
 use Rattle.std.proofs.Common.{◌≡◌, ℕ, sym, ap, ◌∙◌, subst}
 use Rattle.std.specs.Prelude.{None, Some}
-use Rattle.deque_list.specs.declared.deque_id.DequeId.{DequeId}
-use Rattle.hall_slots.specs.Takes.{HallSeat, MeetsLaw}
-use Rattle.hall_slots.specs.declared.key.HallKey.{HallKey}
-use Rattle.hall_slots.specs.declared.list_slot.ListSlot.{ListSlot}
+use Rattle.hall_actions.specs.Passed.HallNames.{DequeId, HallSeat, MeetsLaw, HallKey, ListSlot, IsDummy, IsEnd, next_of, Next}
 use Rattle.hall_actions.specs.declared.at_next.AtNext.{AtNext}
 use Rattle.hall_actions.specs.Passed.EventParts.{IsNext}
 use Rattle.hall_actions.proofs.Charging.{spent_is_too_much}
@@ -18,9 +15,6 @@ use Rattle.hall_owner.specs.Holding.{IsBefore}
 use Rattle.hall_owner.proofs.Showing.{LeavesNobody, spent_again}
 use Rattle.hall_owner.proofs.FromList as from
 use Rattle.hall_owner.proofs.WithList as with
-use Rattle.thread_frames.specs.Actions.{IsDummy, IsEnd}
-use Rattle.thread_frames.specs.Views.{next_of}
-use Rattle.thread_frames.specs.declared.next.Next.{Next}
 use Rattle.thread_frames.specs.declared.next.Next.TheVariants as nexts
 
 module _ (key : HallKey) (before : HallSeat) (deque : DequeId) (at : AtNext) (next : Next) (ready : ℕ) (was : ListSlot)

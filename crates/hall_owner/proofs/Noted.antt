@@ -1,13 +1,10 @@
 -- Which event an owner does with what it took.
 use Rattle.std.proofs.Common.{◌≡◌, ℕ, Bool, true, false, true≢false, refl, sym, ap, ◌∙◌, subst}
 use Rattle.std.specs.Prelude.{Option, None, Some}
-use Rattle.deque_list.specs.declared.deque_id.DequeId.{DequeId}
-use Rattle.hall_slots.specs.declared.event.Event.{Event}
+use Rattle.hall_actions.specs.Passed.HallNames.{DequeId, Event, HallKey, PoolIsSound, Next, Thread}
 use Rattle.hall_slots.specs.declared.event.Event.TheVariants.{Did}
-use Rattle.hall_slots.specs.declared.key.HallKey.{HallKey}
 use Rattle.hall_actions.specs.declared.at_next.AtNext.{AtNext}
 use Rattle.hall_actions.specs.Passed.NotingVariants.{Same}
-use Rattle.hall_slots.specs.Sound.{PoolIsSound}
 use Rattle.hall_actions.specs.WithAll.{owned_with}
 use Rattle.hall_actions.specs.WithList.{is_action, IsNamedAs, IsNotedFor}
 use Rattle.hall_actions.specs.declared.with_list.ListEvent.{ListEvent}
@@ -19,9 +16,7 @@ use Rattle.hall_owner.specs.Decided.{Decides, HasItsSlots, IsBelow, IsTakenIf, N
 use Rattle.hall_owner.specs.Taken.{list_in, pool_in, HasMoreOf, IsActionOf, IsNotedOn, IsQuietOnLane}
 use Rattle.hall_owner.specs.declared.taken.Taken.{Taken}
 use Rattle.hall_owner.specs.declared.taken.Taken.TheVariants.{OnLane, WithPool, WithList, WithAll}
-use Rattle.thread_frames.specs.declared.next.Next.{Next}
 use Rattle.thread_frames.specs.declared.next.Next.TheVariants as nexts
-use Rattle.thread_frames.specs.declared.thread.Thread.{Thread}
 
 -- an event is an action or is none
 pub is_one : (taken : Taken) (b c : Bool) → IsActionOf taken b → IsActionOf taken c → b ≡ c

@@ -1,9 +1,7 @@
 -- An owner that took what its event needs: how it fails, and what it has in its hands once it asked for memory and counted.
 use Rattle.std.proofs.Common.{◌≡◌, ℕ, ◌+◌, ◌≤◌, Bool, true, false, [], ◌++◌, inl, inr, refl, sym, ap, ◌∙◌, subst, arith}
 use Rattle.std.specs.Prelude.{Option, None, Some}
-use Rattle.deque_list.specs.declared.deque_id.DequeId.{DequeId}
-use Rattle.hall_slots.specs.Takes.{HallSeat}
-use Rattle.hall_slots.specs.declared.key.HallKey.{HallKey}
+use Rattle.hall_actions.specs.Passed.HallNames.{DequeId, HallSeat, HallKey, IsJoin, Next, with_hand}
 use Rattle.hall_actions.proofs.InUse.{words_are_in_use}
 use Rattle.hall_actions.proofs.Reading.{pools_are_sound}
 use Rattle.hall_actions.proofs.Returned.{same_sound}
@@ -29,13 +27,10 @@ use Rattle.hall_owner.specs.Holding.{FailsBy, IsHolding, look_at_count}
 use Rattle.hall_owner.specs.Ready.{IsReadyFor, IsReadyOn, ActsWithPool}
 use Rattle.hall_owner.specs.Taken.{slots_of, HasRoomOf, IsActionOf, IsNotedOn}
 use Rattle.hall_owner.specs.Taking.{note_with, AtPreparing, HasPrepared}
-use Rattle.hall_owner.specs.declared.acted.Acted.{Acted}
-use Rattle.hall_owner.specs.declared.refused.ActRefused.{ActRefused}
+use Rattle.hall_owner.specs.declared.acting.Acted.{Acted}
+use Rattle.hall_actions.specs.declared.refused.ActRefused.{ActRefused}
 use Rattle.hall_owner.specs.declared.taken.Taken.{Taken}
 use Rattle.hall_owner.specs.declared.taken.Taken.TheVariants.{OnLane, WithPool, WithList, WithAll}
-use Rattle.thread_frames.specs.Actions.{IsJoin}
-use Rattle.thread_frames.specs.declared.next.Next.{Next}
-use Rattle.turn_table.specs.Seats.{with_hand}
 
 module _ (key : HallKey) (seat : HallSeat) (deque : DequeId) (at : AtNext) (next : Next) (ready : ℕ) where
   pub sound_in : (taken : Taken) → IsReadyFor key seat deque at next ready taken → SoundIn key taken

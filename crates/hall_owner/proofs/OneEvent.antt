@@ -1,15 +1,11 @@
 -- One lane and one list show one event.
 use Rattle.std.proofs.Common.{ℕ, true≢false, inl, inr, sym, ◌∙◌, arith}
 use Rattle.std.specs.Prelude.{Option, None, Some}
-use Rattle.deque_list.specs.declared.deque_id.DequeId.{DequeId}
-use Rattle.hall_slots.specs.declared.event.Event.{Event}
+use Rattle.hall_actions.specs.Passed.HallNames.{DequeId, Event, HallKey, ListSlot, Next}
 use Rattle.hall_slots.specs.declared.event.Event.TheVariants.{Stole, Did, Suspended, GaveUp, Halted}
-use Rattle.hall_slots.specs.declared.key.HallKey.{HallKey}
-use Rattle.hall_slots.specs.declared.list_slot.ListSlot.{ListSlot}
 use Rattle.hall_actions.specs.declared.at_next.AtNext.{AtNext}
 use Rattle.hall_owner.specs.Decided.{FitsQuota, IsDue, IsEventOf, IsOverQuota, IsSpent, IsWaiting}
 use Rattle.hall_owner.specs.Laws.{IsSameEvent}
-use Rattle.thread_frames.specs.declared.next.Next.{Next}
 use Rattle.thread_frames.specs.declared.next.Next.TheVariants.{Fork, Join, Alloc, Release, Dummy, Fault, End}
 use Rattle.depth_first_list.specs.Actions.{record_words}
 

@@ -1,14 +1,8 @@
 -- Which refusal the looks of an owner show, by where it failed.
 use Rattle.std.proofs.Common.{◌≡◌, ℕ, ◌+◌, ◌<◌, List, [], ◌∷◌, ◌++◌, inl, inr, refl, sym, ap, ◌∙◌, subst}
 use Rattle.std.specs.Prelude.{None, Some}
-use Rattle.dag_order.specs.declared.action_id.ActionId.{ActionId}
-use Rattle.deque_list.specs.declared.deque_id.DequeId.{DequeId}
-use Rattle.hall_slots.specs.declared.event.Event.{Event}
+use Rattle.hall_actions.specs.Passed.HallNames.{DequeId, Event, HallKey, ListSlot, PoolSlot, Slot, ActionId, Next}
 use Rattle.hall_slots.specs.declared.event.Event.TheVariants.{Did}
-use Rattle.hall_slots.specs.declared.key.HallKey.{HallKey}
-use Rattle.hall_slots.specs.declared.list_slot.ListSlot.{ListSlot}
-use Rattle.hall_slots.specs.declared.pool_slot.PoolSlot.{PoolSlot}
-use Rattle.hall_slots.specs.declared.slot.Slot.{Slot}
 use Rattle.hall_slots.specs.declared.slot.Slot.TheVariants as slots
 use Rattle.hall_actions.specs.declared.at_next.AtNext.{AtNext}
 use Rattle.hall_actions.specs.WithPool.{IsWithPool, words_asked_by}
@@ -18,12 +12,11 @@ use Rattle.hall_owner.specs.Decided.{HasItsSlots, IsDue, IsToDo, NeedsCount, Nee
 use Rattle.hall_owner.specs.Holding.{AtCount, AtList, AtMemory, AtPool, looks_of}
 use Rattle.hall_owner.specs.Refusing.{AsksForList, IsRefusal}
 use Rattle.hall_owner.specs.Taken.{list_in, looks_in, pool_in}
-use Rattle.hall_owner.specs.declared.refused.ActRefused.{ActRefused}
-use Rattle.hall_owner.specs.declared.refused.ActRefused.TheVariants.{Busy, Over, Stopped}
+use Rattle.hall_actions.specs.declared.refused.ActRefused.{ActRefused}
+use Rattle.hall_actions.specs.declared.refused.ActRefused.TheVariants.{Busy, Over, Stopped}
 use Rattle.hall_owner.specs.declared.taken.Taken.{Taken}
 use Rattle.hall_owner.specs.declared.taken.Taken.TheVariants.{OnLane, WithPool, WithList, WithAll}
 use Rattle.play_rules.specs.declared.stop.Stop.TheVariants.{ArenaFull}
-use Rattle.thread_frames.specs.declared.next.Next.{Next}
 use Rattle.turn_table.specs.declared.held.Held.{Held}
 use Rattle.turn_table.specs.declared.look.Look.{Look}
 use Rattle.turn_table.specs.declared.look.Look.TheVariants.{Took, Refused, Counted}

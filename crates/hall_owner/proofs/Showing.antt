@@ -2,15 +2,9 @@
 use Rattle.std.proofs.Common.{◌≡◌, ◌≢◌, ℕ, ◌+◌, ◌≤◌, ◌<◌, true, List, [], ◌∷◌, length, inr, refl, sym, ap, ◌∙◌, subst, arith}
 use Rattle.std.proofs.lemmas.Option.{none-some}
 use Rattle.std.specs.Prelude.{Option, None, Some}
-use Rattle.dag_order.specs.declared.action_id.ActionId.{ActionId}
-use Rattle.dag_order.specs.declared.thread_id.ThreadId.{ThreadId}
-use Rattle.deque_list.specs.declared.deque_id.DequeId.{DequeId}
-use Rattle.hall_slots.specs.Keys.{quota_of}
-use Rattle.hall_slots.specs.declared.event.Event.{Event}
+use Rattle.hall_actions.specs.Passed.HallNames.{DequeId, quota_of, Event, HallKey, ListSlot, PoolSlot, ActionId, ThreadId, is_delivered, children_of, done_of}
+use Rattle.hall_actions.specs.Passed.HallNames.{join_words_of, label_of, released_by, Next, Thread, kept_under}
 use Rattle.hall_slots.specs.declared.event.Event.TheVariants.{Did, Suspended, GaveUp}
-use Rattle.hall_slots.specs.declared.key.HallKey.{HallKey}
-use Rattle.hall_slots.specs.declared.list_slot.ListSlot.{ListSlot}
-use Rattle.hall_slots.specs.declared.pool_slot.PoolSlot.{PoolSlot}
 use Rattle.hall_actions.specs.declared.at_next.AtNext.{AtNext}
 use Rattle.hall_actions.specs.WithAll.{owned_with}
 use Rattle.hall_actions.specs.WithList.{IsNotedFor}
@@ -25,12 +19,7 @@ use Rattle.hall_owner.specs.Decided.{ActionNeedsList, ActionNeedsPool, HasItsSlo
 use Rattle.hall_owner.specs.Decided.{NeedsList, NeedsPool, owned_after, owned_at_end, owned_by}
 use Rattle.thread_actions.specs.Readiness.{IsReadiness}
 use Rattle.thread_actions.specs.declared.readiness.Readiness.TheVariants.{Ready, Spent}
-use Rattle.thread_frames.specs.Children.{is_delivered}
-use Rattle.thread_frames.specs.Views.{children_of, done_of, join_words_of, label_of, released_by}
-use Rattle.thread_frames.specs.declared.next.Next.{Next}
 use Rattle.thread_frames.specs.declared.next.Next.TheVariants.{Fork, Join, Alloc, Release, Dummy, Fault, End}
-use Rattle.thread_frames.specs.declared.thread.Thread.{Thread}
-use Rattle.thread_map.specs.Kept.{kept_under}
 use Rattle.hall_owner.proofs.Failing.{not_there}
 
 -- ---- by the quota and the results that were handed over

@@ -1,16 +1,14 @@
 -- A seat that tries to take the list or the pool beside what it holds.
 use Rattle.std.proofs.Common.{◌≡◌, ℕ, ◌+◌, ◌≤◌, ◌<◌, List, [], ◌∷◌, ◌++◌, inl, refl, sym, ap, ◌∙◌, subst, append-nil}
 use Rattle.std.specs.Prelude.{Option, Some}
-use Rattle.deque_list.specs.declared.deque_id.DequeId.{DequeId}
+use Rattle.hall_actions.specs.Passed.HallNames.{DequeId, HallSeat, IsTaken, IsRefused, MeetsLaw, HallKey, LaneSlot, ListSlot, PoolSlot, Slot, Next, HasAs, with_hand}
+use Rattle.hall_actions.specs.Passed.HallNames.{PoolIsSound}
 use Rattle.play_rules.specs.declared.ends.RunEnd.{RunEnd}
 use Rattle.play_rules.specs.declared.stop.Stop.{Stop}
 use Rattle.play_rules.specs.declared.stop.Stop.TheVariants.{ArenaFull, OutOfMemory}
-use Rattle.thread_frames.specs.declared.next.Next.{Next}
-use Rattle.turn_table.specs.Notes.{HasAs}
 use Rattle.turn_table.specs.declared.held.Held.{Held}
 use Rattle.turn_table.specs.declared.look.Look.{Look}
 use Rattle.turn_table.specs.declared.look.Look.TheVariants.{Took, Refused}
-use Rattle.turn_table.specs.Seats.{with_hand}
 use Rattle.hall_actions.specs.Passed.Puts.{HasPut}
 use Rattle.hall_actions.specs.Passed.EventParts.{MayGoOn, MayPause}
 use Rattle.hall_actions.specs.Passed.Writes.{Parts}
@@ -18,13 +16,6 @@ use Rattle.hall_actions.specs.Passed.Taken.{its_lane, pool_and_lane}
 use Rattle.hall_actions.specs.Passed.NotingVariants.{Found}
 use Rattle.hall_actions.proofs.Reading.{pools_are_sound}
 use Rattle.hall_slots.specs.Lists.{answered_note}
-use Rattle.hall_slots.specs.Sound.{PoolIsSound}
-use Rattle.hall_slots.specs.Takes.{HallSeat, IsTaken, IsRefused, MeetsLaw}
-use Rattle.hall_slots.specs.declared.key.HallKey.{HallKey}
-use Rattle.hall_slots.specs.declared.lane_slot.LaneSlot.{LaneSlot}
-use Rattle.hall_slots.specs.declared.list_slot.ListSlot.{ListSlot}
-use Rattle.hall_slots.specs.declared.pool_slot.PoolSlot.{PoolSlot}
-use Rattle.hall_slots.specs.declared.slot.Slot.{Slot}
 use Rattle.hall_slots.specs.declared.slot.Slot.TheVariants as slots
 use Rattle.hall_actions.specs.declared.at_next.AtNext.{AtNext}
 use Rattle.hall_actions.proofs.Notable.{full_arenas_may_be_noted, memory_may_be_noted}
@@ -35,8 +26,8 @@ use Rattle.hall_owner.proofs.Given.{lane_back}
 use Rattle.hall_owner.specs.Holding.{AtList, AtMemory, FailsBy, IsHolding, IsBefore, found_note}
 use Rattle.hall_owner.specs.Taking.{AsksByTheList}
 use Rattle.hall_actions.specs.WithPool.{words_asked_by}
-use Rattle.hall_owner.specs.declared.refused.ActRefused.{ActRefused}
-use Rattle.hall_owner.specs.declared.refused.ActRefused.TheVariants.{Busy, Over, Stopped}
+use Rattle.hall_actions.specs.declared.refused.ActRefused.{ActRefused}
+use Rattle.hall_actions.specs.declared.refused.ActRefused.TheVariants.{Busy, Over, Stopped}
 
 -- it may ask for memory
 pub may_pause : (key : HallKey) (seat : HallSeat) (deque : DequeId) (others : LaneSlot → List (ℕ × Slot)) (at : AtNext) (next : Next) (ready : ℕ)

@@ -1,16 +1,12 @@
 -- An owner that took the list and the pool may do the event for which its next action asks.
 use Rattle.std.proofs.Common.{◌≡◌, ℕ, ◌≤◌, ◌<◌, [], length, sym, ap, ◌∙◌, subst}
 use Rattle.std.specs.Prelude.{Some}
-use Rattle.deque_list.specs.declared.deque_id.DequeId.{DequeId}
+use Rattle.hall_actions.specs.Passed.HallNames.{DequeId, HallSeat, MeetsLaw, HallKey, ListSlot, PoolSlot, IsEnd, label_of, next_of, Next, kept_under, HasAs}
 use Rattle.hall_actions.specs.Passed.EventParts.{IsNext}
 use Rattle.hall_actions.specs.Passed.Taken.{all_three}
 use Rattle.hall_actions.proofs.InUse.{words_are_in_use, kept_words_are_in_use}
 use Rattle.hall_actions.specs.Lists.{words_back, ComesTo}
 use Rattle.hall_actions.specs.Reads.{HoldsItsLane}
-use Rattle.hall_slots.specs.Takes.{HallSeat, MeetsLaw}
-use Rattle.hall_slots.specs.declared.key.HallKey.{HallKey}
-use Rattle.hall_slots.specs.declared.list_slot.ListSlot.{ListSlot}
-use Rattle.hall_slots.specs.declared.pool_slot.PoolSlot.{PoolSlot}
 use Rattle.hall_slots.specs.declared.slot.Slot.TheVariants as slots
 use Rattle.hall_actions.specs.declared.at_next.AtNext.{AtNext}
 use Rattle.hall_actions.specs.Passed.Rooms.{IsSamePool}
@@ -23,13 +19,8 @@ use Rattle.hall_owner.proofs.FromList as from
 use Rattle.hall_owner.proofs.Held.{all_list, all_pool, comes, with_all}
 use Rattle.hall_owner.proofs.WithList.{only_kept, some_of}
 use Rattle.thread_points.specs.Points.{words_at_end}
-use Rattle.thread_frames.specs.Actions.{IsEnd}
 use Rattle.thread_frames.specs.Passed.Joins.{released}
-use Rattle.thread_frames.specs.Views.{label_of, next_of}
-use Rattle.thread_frames.specs.declared.next.Next.{Next}
 use Rattle.thread_frames.specs.declared.next.Next.TheVariants as nexts
-use Rattle.thread_map.specs.Kept.{kept_under}
-use Rattle.turn_table.specs.Notes.{HasAs}
 
 module _ (key : HallKey) (seat : HallSeat) (deque : DequeId) (at : AtNext) (next : Next) (ready : ℕ) (list : ListSlot) (pool : PoolSlot)
     (b : IsBefore key seat deque (all_three deque list pool) at next ready) (meets : MeetsLaw key seat) where

@@ -2,15 +2,11 @@
 use Rattle.std.proofs.Common.{◌≡◌, ℕ, ◌≤◌, refl, sym, ap, ◌∙◌, subst}
 use Rattle.std.proofs.lemmas.List.Sorted.{IsPermutation-refl}
 use Rattle.std.specs.Prelude.{Option, None, Some, IsSome}
-use Rattle.dag_order.specs.declared.thread_id.ThreadId.{ThreadId}
-use Rattle.deque_list.specs.declared.deque_id.DequeId.{DequeId}
+use Rattle.hall_actions.specs.Passed.HallNames.{DequeId, HallSeat, MeetsLaw, HallKey, ListSlot, ThreadId, Ended, Next, Thread, Kept, KeepsTheSame, kept_under, HasAs}
 use Rattle.hall_actions.specs.Passed.Rooms.{KeepsDeques, HasMoreBooks, HasMoreRoom, HasMoreToLeave, HasMoreToWait}
 use Rattle.hall_actions.specs.Passed.Taken.{list_and_lane}
 use Rattle.hall_actions.specs.Lists.{ComesTo}
 use Rattle.hall_actions.specs.Reads.{HoldsItsLane}
-use Rattle.hall_slots.specs.Takes.{HallSeat, MeetsLaw}
-use Rattle.hall_slots.specs.declared.key.HallKey.{HallKey}
-use Rattle.hall_slots.specs.declared.list_slot.ListSlot.{ListSlot}
 use Rattle.hall_slots.specs.declared.slot.Slot.TheVariants as slots
 use Rattle.hall_actions.specs.Pauses.{CanClose}
 use Rattle.hall_actions.specs.declared.at_next.AtNext.{AtNext}
@@ -19,12 +15,7 @@ use Rattle.hall_owner.proofs.Held.{comes, list_held, with_list}
 use Rattle.hall_owner.specs.Holding.{IsBefore}
 use Rattle.space_ledger.specs.BooksList.{books_spare}
 use Rattle.hall_owner.specs.Asked.{IsKeptFor}
-use Rattle.thread_frames.specs.declared.ended.Ended.{Ended}
-use Rattle.thread_frames.specs.declared.next.Next.{Next}
-use Rattle.thread_frames.specs.declared.thread.Thread.{Thread}
-use Rattle.thread_map.specs.Kept.{Kept, KeepsTheSame, kept_under}
 use Rattle.thread_frames.specs.Passed.Joins.{released}
-use Rattle.turn_table.specs.Notes.{HasAs}
 
 -- room of one kind is room of any kind
 same_kept : {T : Type 0} (was now : Kept T) → now ≡ was → KeepsTheSame was now

@@ -4,20 +4,16 @@ use Rattle.std.specs.Prelude.{Option, None, Some}
 use Rattle.std.specs.Option.{option_map}
 use Rattle.std.proofs.lemmas.Option.{none-some}
 use Rattle.dag_order.specs.declared.finish.Finish.{Finish}
-use Rattle.deque_list.specs.declared.deque_id.DequeId.{DequeId}
+use Rattle.hall_actions.specs.Passed.HallNames.{DequeId, table_of, quota_of, running_shown, HallSeat, AreTaken, MeetsLaw, HallKey, LaneSlot, Running, ListSlot}
+use Rattle.hall_actions.specs.Passed.HallNames.{SeatNote, Slot, IsStill, IsAtPoint, Thread, HasAs, notes, with_hand}
 use Rattle.hall_slots.specs.Passed.Lists.{Each, times}
 use Rattle.hall_slots.specs.Passed.Parts.{Has}
 use Rattle.play_rules.specs.declared.ends.RunEnd.{RunEnd}
 use Rattle.play_rules.specs.declared.ends.RunEnd.TheVariants.{Finished}
 use Rattle.play_rules.specs.declared.stop.Stop.{Stop}
 use Rattle.play_rules.specs.declared.stop.Stop.TheVariants.{OutOfMemory}
-use Rattle.thread_frames.specs.Actions.{IsStill}
-use Rattle.thread_frames.specs.Points.{IsAtPoint}
-use Rattle.thread_frames.specs.declared.thread.Thread.{Thread}
-use Rattle.turn_table.specs.Notes.{HasAs, notes}
 use Rattle.turn_table.proofs.NoteLaws.{notes_at}
 use Rattle.turn_table.specs.declared.look.Look.TheVariants.{Took}
-use Rattle.turn_table.specs.Seats.{with_hand}
 use Rattle.hall_actions.specs.Passed.Puts.{note_of, HasPut, MayPutListAndLane}
 use Rattle.hall_actions.specs.Passed.Rooms.{HasMoreBooks}
 use Rattle.hall_actions.specs.Passed.EventParts.{MayPause}
@@ -30,16 +26,7 @@ use Rattle.hall_actions.specs.Passed.NotingVariants.{Halts}
 use Rattle.hall_actions.specs.Reads.{HoldsItsLane, ReadsLane}
 use Rattle.hall_actions.proofs.Reading.{st, shown, holds as law_holds, owners_read}
 use Rattle.hall_actions.proofs.Listing.{at, lists_are_read}
-use Rattle.hall_slots.specs.Keys.{table_of, quota_of}
 use Rattle.hall_slots.specs.ListCalls.{end_kept}
-use Rattle.hall_slots.specs.Shown.{running_shown}
-use Rattle.hall_slots.specs.Takes.{HallSeat, AreTaken, MeetsLaw}
-use Rattle.hall_slots.specs.declared.key.HallKey.{HallKey}
-use Rattle.hall_slots.specs.declared.lane_slot.LaneSlot.{LaneSlot}
-use Rattle.hall_slots.specs.declared.lane_slot.Running.{Running}
-use Rattle.hall_slots.specs.declared.list_slot.ListSlot.{ListSlot}
-use Rattle.hall_slots.specs.declared.seat_note.SeatNote.{SeatNote}
-use Rattle.hall_slots.specs.declared.slot.Slot.{Slot}
 use Rattle.hall_slots.specs.declared.slot.Slot.TheVariants as slots
 use Rattle.hall_slots.proofs.Named.{named_there}
 use Rattle.hall_slots.proofs.Reading.{get_of_at}

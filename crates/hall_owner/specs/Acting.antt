@@ -1,23 +1,18 @@
 -- What the call of an owner does and answers.
 use Rattle.std.specs.Prelude.{◌≡◌, ◌⊎◌, ℕ, ◌+◌, Option, List, [], ◌∷◌, ◌++◌, Result, Ok, Err}
-use Rattle.deque_list.specs.declared.deque_id.DequeId.{DequeId}
+use Rattle.hall_actions.specs.Passed.HallNames.{DequeId, HallSeat, HallKey, LaneSlot, Slot, Next}
 use Rattle.play_rules.specs.declared.stop.Stop.TheVariants.{OutOfMemory}
-use Rattle.thread_frames.specs.declared.next.Next.{Next}
 use Rattle.turn_table.specs.declared.look.Look.{Look}
 use Rattle.turn_table.specs.declared.look.Look.TheVariants.{Refused}
 use Rattle.hall_actions.specs.Passed.Writes.{told_note}
-use Rattle.hall_slots.specs.Takes.{HallSeat}
-use Rattle.hall_slots.specs.declared.key.HallKey.{HallKey}
-use Rattle.hall_slots.specs.declared.lane_slot.LaneSlot.{LaneSlot}
-use Rattle.hall_slots.specs.declared.slot.Slot.{Slot}
 use Rattle.hall_actions.specs.Advancing.{IsAtNext, HasLooked, took_lane}
 use Rattle.hall_actions.specs.declared.at_next.AtNext.{AtNext}
 use Rattle.hall_owner.specs.Decided.{Decides, Seen}
 use Rattle.hall_owner.specs.Holding.{FailsBy, last_look, look_at_count, looks_of, refusal_note}
 use Rattle.hall_owner.specs.Refusing.{IsRefusal, Refuses}
-use Rattle.hall_owner.specs.declared.acted.Acted.{Acted}
-use Rattle.hall_owner.specs.declared.refused.ActRefused.{ActRefused}
-use Rattle.hall_owner.specs.declared.refused.ActRefused.TheVariants.{Busy, Over, Stopped}
+use Rattle.hall_owner.specs.declared.acting.Acted.{Acted}
+use Rattle.hall_actions.specs.declared.refused.ActRefused.{ActRefused}
+use Rattle.hall_actions.specs.declared.refused.ActRefused.TheVariants.{Busy, Over, Stopped}
 use Rattle.hall_owner.specs.Taken.{list_in, looks_in, pool_in}
 use Rattle.hall_owner.specs.declared.taken.Taken.{Taken}
 

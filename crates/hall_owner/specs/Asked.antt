@@ -1,8 +1,7 @@
 -- For which event the next action of an owner asks, by its lane and by what is kept in the list.
 use Rattle.std.specs.Prelude.{◌≡◌, ℕ, ◌+◌, ◌≤◌, ◌<◌, true, false, Option, None, Some, [], length, IsSome, IsTrue}
-use Rattle.dag_order.specs.declared.thread_id.ThreadId.{ThreadId}
-use Rattle.hall_slots.specs.declared.key.HallKey.{HallKey}
-use Rattle.hall_slots.specs.declared.list_slot.ListSlot.{ListSlot}
+use Rattle.hall_actions.specs.Passed.HallNames.{HallKey, ListSlot, ThreadId, is_there, is_delivered, children_of, join_words_of, label_of, newest, Ended, Next}
+use Rattle.hall_actions.specs.Passed.HallNames.{Thread, kept_under}
 use Rattle.hall_actions.specs.declared.at_next.AtNext.{AtNext}
 use Rattle.hall_actions.specs.Quotas.{MayUse}
 use Rattle.hall_actions.specs.WithPool.{IsWithPool, words_asked_by}
@@ -19,15 +18,8 @@ use Rattle.hall_owner.specs.declared.wanted.ListWanted.{ListWanted}
 use Rattle.hall_owner.specs.declared.wanted.ListWanted.TheVariants as listed
 use Rattle.hall_owner.specs.declared.wanted.Wanted.{Wanted}
 use Rattle.hall_owner.specs.declared.wanted.Wanted.TheVariants as wanted
-use Rattle.thread_frames.specs.Actions.{is_there}
-use Rattle.thread_frames.specs.Children.{is_delivered}
 use Rattle.thread_frames.specs.Passed.Joins.{released}
-use Rattle.thread_frames.specs.Views.{children_of, join_words_of, label_of, newest}
-use Rattle.thread_frames.specs.declared.ended.Ended.{Ended}
-use Rattle.thread_frames.specs.declared.next.Next.{Next}
 use Rattle.thread_frames.specs.declared.next.Next.TheVariants as nexts
-use Rattle.thread_frames.specs.declared.thread.Thread.{Thread}
-use Rattle.thread_map.specs.Kept.{kept_under}
 
 -- For the Join of a child: whether a result is kept for it, and how many words the thread releases with it.
 abbrev pub IsKeptFor : ListSlot → Thread → ThreadId → Option ℕ → Type 0

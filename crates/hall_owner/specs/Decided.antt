@@ -1,23 +1,13 @@
 -- Which event an owner does: by the action before which its top thread is, and by what the owner saw.
 use Rattle.std.specs.Prelude.{◌≡◌, ◌≢◌, ◌⊎◌, ℕ, ◌+◌, ◌<◌, ◌≤◌, true, false, Option, None, Some, List, [], ◌∷◌, length}
-use Rattle.dag_order.specs.declared.thread_id.ThreadId.{ThreadId}
 use Rattle.depth_first_list.specs.Actions.{record_words}
-use Rattle.deque_list.specs.declared.deque_id.DequeId.{DequeId}
-use Rattle.hall_slots.specs.Keys.{quota_of}
-use Rattle.hall_slots.specs.declared.event.Event.{Event}
+use Rattle.hall_actions.specs.Passed.HallNames.{DequeId, quota_of, Event, HallKey, ListSlot, PoolSlot, ThreadId, is_delivered, children_of, join_words_of, label_of}
+use Rattle.hall_actions.specs.Passed.HallNames.{released_by, Next, Thread, kept_under}
 use Rattle.hall_slots.specs.declared.event.Event.TheVariants.{Stole, Did, Suspended, GaveUp, Halted}
-use Rattle.hall_slots.specs.declared.key.HallKey.{HallKey}
-use Rattle.hall_slots.specs.declared.list_slot.ListSlot.{ListSlot}
-use Rattle.hall_slots.specs.declared.pool_slot.PoolSlot.{PoolSlot}
 use Rattle.hall_actions.specs.declared.at_next.AtNext.{AtNext}
 use Rattle.hall_actions.specs.WithList.{IsNamedAs}
 use Rattle.hall_actions.specs.WithPool.{words_asked_by}
-use Rattle.thread_frames.specs.Children.{is_delivered}
-use Rattle.thread_frames.specs.Views.{children_of, join_words_of, label_of, released_by}
-use Rattle.thread_frames.specs.declared.next.Next.{Next}
 use Rattle.thread_frames.specs.declared.next.Next.TheVariants.{Fork, Join, Alloc, Release, Dummy, Fault, End}
-use Rattle.thread_frames.specs.declared.thread.Thread.{Thread}
-use Rattle.thread_map.specs.Kept.{kept_under}
 
 -- ---- which event
 

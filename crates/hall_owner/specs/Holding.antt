@@ -1,25 +1,17 @@
 -- What an owner holds whose top thread has come to its next action, and how its call fails.
-use Rattle.std.specs.Prelude.{◌≡◌, ℕ, ◌≤◌, false, Option, None, Some, List, [], ◌∷◌, ◌++◌, Result, Ok, Err}
-use Rattle.deque_list.specs.declared.deque_id.DequeId.{DequeId}
+use Rattle.std.specs.Prelude.{◌≡◌, ℕ, ◌≤◌, false, Option, None, Some, List, [], ◌∷◌, ◌++◌}
+use Rattle.hall_actions.specs.Passed.HallNames.{DequeId, HallSeat, HallKey, LaneSlot, ListSlot, PoolSlot, SeatNote, Slot, Next}
 use Rattle.play_rules.specs.declared.stop.Stop.{Stop}
 use Rattle.play_rules.specs.declared.stop.Stop.TheVariants.{StepsSpent, OutOfMemory}
-use Rattle.thread_frames.specs.declared.next.Next.{Next}
 use Rattle.turn_table.specs.declared.look.Look.{Look}
 use Rattle.turn_table.specs.declared.look.Look.TheVariants.{Took, Refused, Counted}
 use Rattle.hall_actions.specs.Passed.EventParts.{MayGoOn}
-use Rattle.hall_slots.specs.Takes.{HallSeat}
-use Rattle.hall_slots.specs.declared.key.HallKey.{HallKey}
-use Rattle.hall_slots.specs.declared.lane_slot.LaneSlot.{LaneSlot}
-use Rattle.hall_slots.specs.declared.list_slot.ListSlot.{ListSlot}
-use Rattle.hall_slots.specs.declared.pool_slot.PoolSlot.{PoolSlot}
-use Rattle.hall_slots.specs.declared.seat_note.SeatNote.{SeatNote}
-use Rattle.hall_slots.specs.declared.slot.Slot.{Slot}
 use Rattle.hall_slots.specs.declared.slot.Slot.TheVariants as slots
 use Rattle.hall_actions.specs.Advancing.{IsAtNext, HasLooked}
 use Rattle.hall_actions.specs.declared.at_next.AtNext.{AtNext}
 use Rattle.hall_owner.specs.Decided.{Seen}
-use Rattle.hall_owner.specs.declared.refused.ActRefused.{ActRefused}
-use Rattle.hall_owner.specs.declared.refused.ActRefused.TheVariants.{Busy, Over, Stopped}
+use Rattle.hall_actions.specs.declared.refused.ActRefused.{ActRefused}
+use Rattle.hall_actions.specs.declared.refused.ActRefused.TheVariants.{Busy, Over, Stopped}
 
 -- The seat is in, owns the deque and holds these slots, among them its lane as it took it, whose top thread has come to this action.
 pub record IsHolding (key : HallKey) (seat : HallSeat) (deque : DequeId) (taken : LaneSlot → List (ℕ × Slot)) (at : AtNext) (next : Next)
@@ -91,10 +83,3 @@ AtMemory more refused = (refused ≡ Stopped OutOfMemory) × (more ≡ [])
 
 abbrev pub AtCount : (limit : ℕ) → List (Look Slot) → ActRefused → Type 0
 AtCount limit more refused = (found : ℕ) × (limit ≤ found) × (refused ≡ Stopped (StepsSpent limit)) × (more ≡ Counted found ∷ [])
-
--- no slot was refused to it
-abbrev pub IsNotBusy : {T : Type 0} → Result T ActRefused → Type 0
-IsNotBusy (Ok value) = Unit {0}
-IsNotBusy (Err (Busy held)) = ⊥
-IsNotBusy (Err (Over end)) = Unit {0}
-IsNotBusy (Err (Stopped stop)) = Unit {0}

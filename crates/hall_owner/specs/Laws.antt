@@ -1,13 +1,9 @@
 -- The law of what an owner sees.
 use Rattle.std.specs.Prelude.{◌≡◌, Option}
-use Rattle.deque_list.specs.declared.deque_id.DequeId.{DequeId}
-use Rattle.hall_slots.specs.declared.event.Event.{Event}
+use Rattle.hall_actions.specs.Passed.HallNames.{DequeId, Event, HallKey, ListSlot, Next}
 use Rattle.hall_slots.specs.declared.event.Event.TheVariants.{Did, Suspended, GaveUp}
-use Rattle.hall_slots.specs.declared.key.HallKey.{HallKey}
-use Rattle.hall_slots.specs.declared.list_slot.ListSlot.{ListSlot}
 use Rattle.hall_actions.specs.declared.at_next.AtNext.{AtNext}
 use Rattle.hall_owner.specs.Decided.{IsEventOf}
-use Rattle.thread_frames.specs.declared.next.Next.{Next}
 
 -- the same event, of an action whatever its name
 abbrev pub IsSameEvent : Event → Event → Type 0

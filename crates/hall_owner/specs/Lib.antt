@@ -8,4 +8,4 @@ pub mod Asked
 pub mod Acting
 pub mod Laws
 pub mod Yielding
-pub mod Stepping
+pub mod Passed

@@ -1,11 +1,7 @@
 -- What an owner has in its hands when it does its next action.
 use Rattle.std.specs.Prelude.{◌≡◌, ℕ, ◌+◌, ◌≤◌, Some, IsTrue}
-use Rattle.dag_order.specs.declared.thread_id.ThreadId.{ThreadId}
-use Rattle.deque_list.specs.declared.deque_id.DequeId.{DequeId}
-use Rattle.hall_slots.specs.Keys.{quota_of}
-use Rattle.hall_slots.specs.Takes.{HallSeat, MeetsLaw}
-use Rattle.hall_slots.specs.declared.key.HallKey.{HallKey}
-use Rattle.hall_slots.specs.declared.pool_slot.PoolSlot.{PoolSlot}
+use Rattle.hall_actions.specs.Passed.HallNames.{DequeId, quota_of, HallSeat, MeetsLaw, HallKey, PoolSlot, ThreadId, IsJoin, is_there, children_of, join_words_of}
+use Rattle.hall_actions.specs.Passed.HallNames.{newest, next_of, Next}
 use Rattle.hall_actions.specs.declared.at_next.AtNext.{AtNext}
 use Rattle.hall_actions.specs.Passed.EventParts.{IsNext, MayAct}
 use Rattle.hall_actions.specs.Lists.{words_back}
@@ -23,9 +19,6 @@ use Rattle.hall_owner.specs.declared.wanted.Wanted.{Wanted}
 use Rattle.thread_actions.specs.Readiness.{IsReadiness}
 use Rattle.thread_actions.specs.declared.readiness.Readiness.{Readiness}
 use Rattle.hall_owner.specs.declared.taken.Taken.TheVariants.{OnLane, WithPool, WithList, WithAll}
-use Rattle.thread_frames.specs.Actions.{IsJoin, is_there}
-use Rattle.thread_frames.specs.Views.{children_of, join_words_of, newest, next_of}
-use Rattle.thread_frames.specs.declared.next.Next.{Next}
 use Rattle.thread_frames.specs.declared.next.Next.TheVariants as nexts
 
 -- The seat holds its lane, whose top thread has come to this action, and meets the law.

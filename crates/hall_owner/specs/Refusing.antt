@@ -1,21 +1,15 @@
 -- Why an owner did no event, by what it saw.
 use Rattle.std.specs.Prelude.{◌≡◌, ◌⊎◌, ℕ, ◌+◌, ◌<◌, ◌≤◌, Option, None, Some, List, ◌++◌}
-use Rattle.deque_list.specs.declared.deque_id.DequeId.{DequeId}
-use Rattle.hall_slots.specs.declared.event.Event.{Event}
-use Rattle.hall_slots.specs.declared.key.HallKey.{HallKey}
-use Rattle.hall_slots.specs.declared.list_slot.ListSlot.{ListSlot}
-use Rattle.hall_slots.specs.declared.pool_slot.PoolSlot.{PoolSlot}
-use Rattle.hall_slots.specs.declared.slot.Slot.{Slot}
+use Rattle.hall_actions.specs.Passed.HallNames.{DequeId, Event, HallKey, ListSlot, PoolSlot, Slot, Next}
 use Rattle.hall_actions.specs.declared.at_next.AtNext.{AtNext}
 use Rattle.hall_actions.specs.WithPool.{words_asked_by}
 use Rattle.hall_owner.specs.Decided.{ActionNeedsList, HasItsSlots, IsSpent, IsToDo, NeedsCount, NeedsPool, Seen}
 use Rattle.hall_owner.specs.Holding.{last_look, looks_of}
-use Rattle.hall_owner.specs.declared.refused.ActRefused.{ActRefused}
-use Rattle.hall_owner.specs.declared.refused.ActRefused.TheVariants.{Busy, Over, Stopped}
+use Rattle.hall_actions.specs.declared.refused.ActRefused.{ActRefused}
+use Rattle.hall_actions.specs.declared.refused.ActRefused.TheVariants.{Busy, Over, Stopped}
 use Rattle.play_rules.specs.declared.ends.RunEnd.{RunEnd}
 use Rattle.play_rules.specs.declared.stop.Stop.{Stop}
 use Rattle.play_rules.specs.declared.stop.Stop.TheVariants.{ArenaFull, DequesFull, StepsSpent, OutOfMemory}
-use Rattle.thread_frames.specs.declared.next.Next.{Next}
 use Rattle.turn_table.specs.declared.look.Look.{Look}
 
 -- by its lane alone it needs the list: for its action, or since the quota is spent

@@ -1,18 +1,10 @@
 -- What an owner does that takes what its event needs, and asks for memory there.
 use Rattle.std.specs.Prelude.{◌≡◌, ◌⊎◌, ℕ, ◌+◌, ◌<◌, ◌≤◌, true, Option, None, Some, List, ◌++◌, Result, Ok, Err}
-use Rattle.deque_list.specs.declared.deque_id.DequeId.{DequeId}
+use Rattle.hall_actions.specs.Passed.HallNames.{DequeId, HallSeat, IsTaken, MeetsLaw, HallKey, ListSlot, PoolSlot, SeatNote, Slot, Next, with_hand}
 use Rattle.play_rules.specs.declared.stop.Stop.{Stop}
 use Rattle.play_rules.specs.declared.stop.Stop.TheVariants.{ArenaFull}
-use Rattle.thread_frames.specs.declared.next.Next.{Next}
 use Rattle.turn_table.specs.declared.look.Look.{Look}
-use Rattle.turn_table.specs.Seats.{with_hand}
 use Rattle.hall_slots.specs.Counting.{counting_note}
-use Rattle.hall_slots.specs.Takes.{HallSeat, IsTaken, MeetsLaw}
-use Rattle.hall_slots.specs.declared.key.HallKey.{HallKey}
-use Rattle.hall_slots.specs.declared.list_slot.ListSlot.{ListSlot}
-use Rattle.hall_slots.specs.declared.pool_slot.PoolSlot.{PoolSlot}
-use Rattle.hall_slots.specs.declared.seat_note.SeatNote.{SeatNote}
-use Rattle.hall_slots.specs.declared.slot.Slot.{Slot}
 use Rattle.hall_slots.specs.declared.slot.Slot.TheVariants as slots
 use Rattle.hall_actions.specs.WithPool.{words_asked_by}
 use Rattle.hall_actions.specs.declared.with_all.WholeEvent.{WholeEvent}
@@ -23,7 +15,7 @@ use Rattle.hall_owner.specs.Decided.{IsBelow, IsTakenIf}
 use Rattle.hall_owner.specs.Holding.{AtCount, AtList, AtMemory, AtPool, FailsBy, look_at_count}
 use Rattle.hall_owner.specs.Refusing.{IsRefusal}
 use Rattle.hall_owner.specs.Taken.{held_with, looks_in, HasMoreOf, HasRoomOf, IsActionOf}
-use Rattle.hall_owner.specs.declared.refused.ActRefused.{ActRefused}
+use Rattle.hall_actions.specs.declared.refused.ActRefused.{ActRefused}
 use Rattle.hall_owner.specs.declared.taken.Taken.{Taken}
 use Rattle.hall_owner.specs.declared.taken.Taken.TheVariants.{WithAll}
 

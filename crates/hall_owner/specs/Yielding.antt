@@ -1,6 +1,6 @@
 -- How an owner gives its deque up though nothing asks for it.
 use Rattle.std.specs.Prelude.{◌≡◌, ◌≢◌, ◌⊎◌, ℕ, ◌+◌, ◌≤◌, true, Option, None, Some, List, [], ◌∷◌, ◌++◌, Result, Ok, Err}
-use Rattle.deque_list.specs.declared.deque_id.DequeId.{DequeId}
+use Rattle.hall_actions.specs.Passed.HallNames.{DequeId, HallSeat, MeetsLaw, HallKey, LaneSlot, Running, ListSlot, SeatNote, Slot}
 use Rattle.play_rules.specs.declared.ends.RunEnd.{RunEnd}
 use Rattle.play_rules.specs.declared.stop.Stop.{Stop}
 use Rattle.play_rules.specs.declared.stop.Stop.TheVariants as stops
@@ -9,26 +9,21 @@ use Rattle.turn_table.specs.declared.held.Held.{Held}
 use Rattle.turn_table.specs.declared.look.Look.{Look}
 use Rattle.turn_table.specs.declared.look.Look.TheVariants.{Took, Refused}
 use Rattle.hall_actions.specs.Passed.EventParts.{MayPause}
-use Rattle.hall_actions.specs.Passed.Writes.{told_note}
+use Rattle.hall_actions.specs.Passed.Puts.{note_of, MayPutListAndLane}
+use Rattle.hall_actions.specs.Passed.Writes.{told_note, Parts}
+use Rattle.hall_actions.specs.Returning.{MayNote}
 use Rattle.hall_actions.specs.Passed.Taken.{list_and_lane}
 use Rattle.hall_actions.specs.Passed.Noting.{Noting}
 use Rattle.hall_actions.specs.Passed.Rooms.{HasMoreBooks}
 use Rattle.hall_actions.specs.Passed.NotingVariants.{Same, Found}
 use Rattle.hall_slots.specs.ListCalls.{end_kept, ShowsUnowned, HasNoOwner, KeepsRest}
 use Rattle.hall_slots.specs.Lists.{answered_note}
-use Rattle.hall_slots.specs.Takes.{HallSeat, MeetsLaw}
 use Rattle.hall_slots.specs.declared.event.Event.TheVariants.{GaveUp}
-use Rattle.hall_slots.specs.declared.key.HallKey.{HallKey}
-use Rattle.hall_slots.specs.declared.lane_slot.LaneSlot.{LaneSlot}
-use Rattle.hall_slots.specs.declared.lane_slot.Running.{Running}
-use Rattle.hall_slots.specs.declared.list_slot.ListSlot.{ListSlot}
-use Rattle.hall_slots.specs.declared.seat_note.SeatNote.{SeatNote}
-use Rattle.hall_slots.specs.declared.slot.Slot.{Slot}
 use Rattle.hall_slots.specs.declared.slot.Slot.TheVariants as slots
 use Rattle.hall_actions.specs.Advancing.{HasLooked, took_lane}
 use Rattle.hall_owner.specs.Holding.{found_note}
-use Rattle.hall_owner.specs.declared.refused.ActRefused.{ActRefused}
-use Rattle.hall_owner.specs.declared.refused.ActRefused.TheVariants as failed
+use Rattle.hall_actions.specs.declared.refused.ActRefused.{ActRefused}
+use Rattle.hall_actions.specs.declared.refused.ActRefused.TheVariants as failed
 use Rattle.hall_owner.specs.declared.leaving.LastRefused.{LastRefused}
 use Rattle.hall_owner.specs.declared.leaving.LastRefused.TheVariants as last
 use Rattle.hall_owner.specs.declared.leaving.YieldRefused.{YieldRefused}
@@ -87,6 +82,12 @@ pub record IsGivenUp (deque : DequeId) (list_was : ListSlot) (lane_was : LaneSlo
   pub places : HasNoOwner deque roomy.part.order.places list.part.order.places
   pub rest : KeepsRest roomy list
   pub lane_is : lane ≡ record { lane = lane_was.lane; running = None }
+
+-- The seat may note this once its deque is given up so, and the other where memory is wanting.
+pub record MayNoteBoth (key : HallKey) (seat : HallSeat) (deque : DequeId) (list : ListSlot) (lane : LaneSlot) (noting short : Noting) : Type 0 where
+  pub gives : (given : ListSlot) (left : LaneSlot) → IsGivenUp deque list lane given left
+      → MayPutListAndLane key seat deque given left (note_of seat.hand.note noting)
+  pub wants : (was : Parts) → MayNote key seat deque was short
 
 -- It took its lane, and then the list, which was this. It holds nothing, and notes this.
 abbrev pub HasTakenBoth : HallSeat → DequeId → ListSlot → SeatNote → HallSeat → Type 0

@@ -4,15 +4,15 @@ ghost use Rattle.std.specs.Prelude.{◌≡◌, ◌≢◌, ◌+◌, ◌<◌, [], 
 ghost use Rattle.dag_order.specs.declared.finish.Finish.{Finish as AnyFinish};
 ghost use Rattle.play_rules.specs.declared.ends.RunEnd.{RunEnd as AnyEnd};
 ghost use Rattle.play_rules.specs.declared.ends.RunEnd.TheVariants.{Finished};
-ghost use Rattle.turn_table.specs.Tables.{key_of, slot_count, IsSeatOf};
-ghost use Rattle.hall_slots.specs.Takes.{HasAllPlaces};
+ghost use Rattle.hall_actions.specs.Passed.HallNames.{key_of, slot_count, IsSeatOf, HasAllPlaces};
 ghost use Rattle.hall_actions.specs.Passed.Puts.{HasPut};
-ghost use Rattle.hall_owner.specs.Yielding.{closing_note, halting_note, leaving_note, noting_then, short_note, stop_then, ClosesWith, HasBoth, IsNotBusy, IsNotHeld, LeavesWith, MayBeOver, MayYield};
+ghost use Rattle.hall_owner.specs.Yielding.{halting_note, leaving_note, noting_then, stop_then, ClosesWith};
+ghost use Rattle.hall_owner.specs.Yielding.{HasBoth, IsNotBusy, IsNotHeld, LeavesWith, MayBeOver, MayYield};
 
-use crate::yields::{give_up_in, take_both};
+use crate::yields::{give_up_in, give_up_with, take_both};
 use containers::Boxed;
 use deque_list::DequeId;
-use hall_actions::{Noting, put_list_and_lane, return_list};
+use hall_actions::{Noting, put_list_and_lane};
 use hall_slots::{HallPlace, HallRow, LaneSlot, ListSlot, end_of, keep_in, leave_in};
 use play_rules::{RunEnd, Stop};
 use std::alloc::AllocError;
@@ -58,11 +58,8 @@ fn noting_of(found: Option<Stop>) -> Noting
     }
 }
 
-/// Leaves with the deque, its lane and the list, if there is memory to close its period, and puts both back.
-///
-/// # Errors
-///
-/// There is not enough memory. What was taken is put back with the stop of the seat in the list, unless an end is kept.
+/// Leaves with the deque, its lane and the list, if there is memory to close its period, and puts both back. Fails if there is not enough memory.
+/// What was taken is put back with the stop of the seat in the list, unless an end is kept.
 fn leave_with(
     row: &HallRow,
     seat: &mut HallPlace,
@@ -131,42 +128,6 @@ pub fn leave_deque(
     }
 }
 
-/// Gives the deque up with its lane and the list, in which this end is kept, if there is memory to close its period, and puts both back. The seat is
-/// answered the end.
-///
-/// # Errors
-///
-/// There is not enough memory. What was taken is put back as it was, and the seat notes this.
-fn close_with(
-    row: &HallRow,
-    seat: &mut HallPlace,
-    deque: DequeId,
-    list: Boxed<ListSlot>,
-    lane: LaneSlot,
-    end: RunEnd,
-    found: Option<Stop>,
-) -> Result<(), AllocError>
-    requires here { IsSeatOf row.now seat.old }
-    requires slot { deque.0 + 2 < slot_count row.now }
-    requires both { HasBoth (key_of row.now) seat.old deque list lane }
-    requires end { list.end ≡ Some end }
-    requires found { seat.old.hand.note.found ≡ found }
-    ensures seat { MatchResult result (λ _. HasPut seat.old (closing_note seat.old.hand.note deque end) [] seat.new)
-        (λ _. HasPut seat.old (short_note seat.old.hand.note) [] seat.new) }
-{
-    let mut list = list;
-    match give_up_in(&mut list, deque, lane) {
-        Ok(lane) => {
-            put_list_and_lane(row, seat, deque, list, lane, Noting::Closes { deque, end });
-            Ok(())
-        }
-        Err(lane) => {
-            return_list(row, seat, deque, list, lane, noting_of(found));
-            Err(AllocError)
-        }
-    }
-}
-
 /// Gives the deque of a seat up where an end is kept, which the seat is answered. The seat has found this stop or none. No statement of its threads
 /// runs.
 ///
@@ -194,10 +155,11 @@ pub fn close_deque(
         Err(held) => return Err(LastRefused::Busy(held)),
     };
     let Some(end) = end_of(&list) else {
-        return_list(row, seat, deque, list, lane, Noting::Same);
+        put_list_and_lane(row, seat, deque, list, lane, Noting::Same);
         return Err(LastRefused::NotOver);
     };
-    match close_with(row, seat, deque, list, lane, end, found) {
+    let noting = Noting::Closes { deque, end };
+    match give_up_with(row, seat, deque, list, lane, noting, noting_of(found)) {
         Ok(()) => Ok(end),
         Err(_) => Err(LastRefused::OutOfMemory),
     }

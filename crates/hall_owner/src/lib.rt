@@ -4,15 +4,15 @@
 //! a wait for a child, or a give up of the deque. It takes the slots that the event needs in one order, its lane first, then the list, then
 //! the pool; counts the action once there is memory for it; does it to the parts; and puts them back, by which the event is decided. If a
 //! slot is held by another seat, the run is over, there is not enough memory, or a limit of the run is met, it gives all slots back
-//! ([`ActRefused`]). Between two events it may let its top thread go on for a while with its lane free in between ([`step_on`]). A seat may also give its deque up
-//! though nothing asks for it ([`give_up_deque`]), leave with it ([`leave_deque`]), or give it up as the last seat of a hall ([`close_deque`]).
+//! ([`ActRefused`]). Between two events it may let its top thread go on for a while with its lane free in between ([`step_on`]). A seat may also
+//! give its deque up though nothing asks for it ([`give_up_deque`]), leave with it ([`leave_deque`]), or give it up as the last seat of a hall
+//! ([`close_deque`]).
 //!
-//! It uses the way to the action, the events themselves, and what is put back if none comes (`hall_actions`), and the count (`hall_slots`). It
-//! hands the memory of a seat on ([`SeatMemory`]), so that who calls it names one crate. Its theorem: what a seat saw of its lane, the list, the pool and the count shows the one event that it was to
-//! do; it did this one, with just the slots and the count that the event needs, and owns then the deque that the event leaves it. Or it did
-//! none, and what it saw shows why: a slot that it needs was refused to it, an end is kept in the list that it needs, or it found a stop. If
-//! a look shows such a cause, it answers this one. And the law of the hall holds between any two atomic steps. The name of an action is that of the
-//! action before which the top thread was.
+//! It uses the way to the action, the events themselves, and what is put back if none comes (`hall_actions`), and the count (`hall_slots`). Its
+//! theorem: what a seat saw of its lane, the list, the pool and the count shows the one event that it was to do; it did this one, with just the
+//! slots and the count that the event needs, and owns then the deque that the event leaves it. Or it did none, and what it saw shows why: a slot
+//! that it needs was refused to it, an end is kept in the list that it needs, or it found a stop. If a look shows such a cause, it answers this
+//! one. And the law of the hall holds between any two atomic steps. The name of an action is that of the action before which the top thread was.
 //!
 //! # Why
 //!
@@ -28,23 +28,16 @@
 //!   owner does not know its next action before it has run up to it, and there it holds its lane.
 #![tactic(auto)]
 
-mod acted;
 mod acting;
-mod doing;
 mod laws;
 mod leaving;
-mod refused;
-mod stepping;
 mod taken;
 mod taking;
 mod wanted;
 mod yields;
 
-pub use acted::Acted;
-pub use acting::act;
-pub use hall_actions::SeatMemory;
+pub use acting::{Acted, act};
+pub use hall_actions::{ActRefused, SeatMemory, step_on};
 pub use laws::one_event;
 pub use leaving::{LastRefused, YieldRefused, close_deque, leave_deque, stop_then};
-pub use refused::ActRefused;
-pub use stepping::step_on;
 pub use yields::give_up_deque;

@@ -1,9 +1,8 @@
 //! What an owner took beside its lane, for the event that it is to do.
 
-ghost use Rattle.std.specs.Prelude.{◌≡◌, ◌≤◌, ◌+◌, ◌<◌, ℕ, [], MatchResult, OnOk};
+ghost use Rattle.std.specs.Prelude.{◌≤◌, ◌+◌, ◌<◌, ℕ, [], MatchResult, OnOk};
 ghost use Rattle.space_ledger.specs.MovesList.{moves_spare};
-ghost use Rattle.thread_frames.specs.declared.next.Next.{Next as AnyNext};
-ghost use Rattle.turn_table.specs.Tables.{key_of, slot_count, IsSeatOf};
+ghost use Rattle.hall_actions.specs.Passed.HallNames.{Next as AnyNext, key_of, slot_count, IsSeatOf};
 ghost use Rattle.hall_actions.specs.Passed.Puts.{note_of, HasPut};
 ghost use Rattle.hall_actions.specs.Returning.{MayNote};
 ghost use Rattle.hall_actions.specs.Passed.Rooms.{IsSamePool};
@@ -20,7 +19,7 @@ use dag_order::ThreadId;
 use deque_list::DequeId;
 use hall_actions::{
     AtNext, ListEvent, Noting, WholeEvent, give_still_back, make_room_for, make_room_for_move,
-    make_room_with, put_together, return_all, return_list, return_pool,
+    make_room_with, put_all, put_list_and_lane, put_pool_and_lane, put_together,
 };
 use hall_slots::{HallPlace, HallRow, ListSlot, PoolSlot};
 use std::alloc::AllocError;
@@ -57,18 +56,8 @@ pub(crate) fn is_counted(taken: &Taken) -> bool
     ensures { IsActionOf taken.now result }
 {
     match taken {
-        Taken::OnLane { child: _child } => true,
-        Taken::WithPool {
-            pool: _pool,
-            next: _next,
-            charge: _charge,
-        } => true,
-        Taken::WithList { list: _list, event } => event.is_action(),
-        Taken::WithAll {
-            list: _list,
-            pool: _pool,
-            event: _event,
-        } => true,
+        Taken::WithList { event, .. } => event.is_action(),
+        _ => true,
     }
 }
 
@@ -82,27 +71,19 @@ fn make_room_in_both(
     ensures pool { IsSamePool pool.old pool.new }
     ensures room { OnOk result (HasRoomWith event list.new × 1 ≤ moves_spare pool.new.moves) }
 {
-    make_room_with(list, event)?;
+    make_room_with(list.get_mut(), event)?;
     make_room_for_move(pool)
 }
 
-/// Asks for the memory that the event needs in what was taken.
-///
-/// # Errors
-///
-/// There is not enough memory.
+/// Asks for the memory that the event needs in what was taken. Fails if there is not enough memory.
 pub(crate) fn make_room(taken: &mut Taken) -> Result<(), AllocError>
     ensures same { HasMoreOf taken.old taken.new }
     ensures room { MatchResult result (λ _. HasRoomOf taken.new) (λ _. IsQuietOnLane taken.new (Found NoMemory)) }
 {
     match taken {
-        Taken::OnLane { child: _child } => Ok(()),
-        Taken::WithPool {
-            pool,
-            next: _next,
-            charge: _charge,
-        } => make_room_for_move(pool),
-        Taken::WithList { list, event } => make_room_for(list, *event),
+        Taken::OnLane { .. } => Ok(()),
+        Taken::WithPool { pool, .. } => make_room_for_move(pool),
+        Taken::WithList { list, event } => make_room_for(list.get_mut(), *event),
         Taken::WithAll { list, pool, event } => make_room_in_both(list, pool, *event),
     }
 }
@@ -126,20 +107,9 @@ pub(crate) fn give_back(
 {
     let lane = put_together(at);
     match taken {
-        Taken::OnLane { child: _child } => give_still_back(row, seat, deque, lane),
-        Taken::WithPool {
-            pool,
-            next: _next,
-            charge: _charge,
-        } => return_pool(row, seat, deque, pool, lane, noting),
-        Taken::WithList {
-            list,
-            event: _event,
-        } => return_list(row, seat, deque, list, lane, noting),
-        Taken::WithAll {
-            list,
-            pool,
-            event: _event,
-        } => return_all(row, seat, deque, list, pool, lane, noting),
+        Taken::OnLane { .. } => give_still_back(row, seat, deque, lane),
+        Taken::WithPool { pool, .. } => put_pool_and_lane(row, seat, deque, pool, lane, noting),
+        Taken::WithList { list, .. } => put_list_and_lane(row, seat, deque, list, lane, noting),
+        Taken::WithAll { list, pool, .. } => put_all(row, seat, deque, list, pool, lane, noting),
     }
 }

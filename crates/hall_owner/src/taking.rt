@@ -1,26 +1,24 @@
 //! How an owner takes what its event needs beside its lane: the list, and then the pool.
 
 ghost use Rattle.std.specs.Prelude.{◌≡◌, ◌+◌, ◌<◌, ℕ, IfOk, None};
-ghost use Rattle.thread_frames.specs.declared.next.Next.{Next as AnyNext};
-ghost use Rattle.turn_table.specs.Tables.{key_of, slot_count, IsSeatOf};
+ghost use Rattle.hall_actions.specs.Passed.HallNames.{key_of, slot_count, IsSeatOf, HasAllPlaces, MeetsLaw, Next as AnyNext};
 ghost use Rattle.hall_actions.specs.Passed.Taken.{its_lane, list_and_lane};
 ghost use Rattle.hall_actions.specs.WithPool.{words_asked_by};
-ghost use Rattle.hall_slots.specs.Takes.{HasAllPlaces, MeetsLaw};
-ghost use Rattle.hall_owner.specs.Asked.{IsAskedByAll, IsWanted, IsWantedOfList};
-ghost use Rattle.hall_owner.specs.Holding.{IsBefore, IsNotBusy};
+ghost use Rattle.hall_actions.specs.Advancing.{IsNotBusy};
+ghost use Rattle.hall_owner.specs.Asked.{IsWanted, IsWantedOfList};
+ghost use Rattle.hall_owner.specs.Holding.{IsBefore};
 ghost use Rattle.hall_owner.specs.Ready.{IsReadyTo};
 ghost use Rattle.hall_owner.specs.Taking.{IsFullBy, TakesFor, TakesList, TakesPoolToo};
 ghost use Rattle.hall_owner.specs.declared.wanted.Wanted.TheVariants as wanted_by_lane;
 
-use crate::refused::ActRefused;
 use crate::taken::Taken;
 use crate::wanted::{Chosen, ListWanted, Wanted, choose, wanted_by};
 use containers::Boxed;
 use depth_first_list::Quota;
 use deque_list::DequeId;
 use hall_actions::{
-    AtNext, Noting, WholeEvent, give_still_back, put_together, return_answered, return_list,
-    return_pool,
+    ActRefused, AtNext, Noting, WholeEvent, give_still_back, put_list_and_lane, put_pool_and_lane,
+    put_together, return_answered,
 };
 use hall_slots::{HallPlace, HallRow, ListSlot, PoolSlot, end_of, take_list, take_pool};
 use language_limits::RECORD_WORDS;
@@ -51,12 +49,8 @@ fn full_arena(pool: &PoolSlot, asked: u32) -> Option<Stop>
     None
 }
 
-/// Takes the pool, where there is room for the words of the action.
-///
-/// # Errors
-///
-/// Another seat holds it (never, if this one has all places), or the words do not fit the arena, which the seat notes as the stop that it found.
-/// The seat holds nothing.
+/// Takes the pool, where there is room for the words of the action. Fails if another seat holds it (never, if this one has all places), or the
+/// words do not fit the arena, which the seat notes as the stop that it found. The seat holds nothing.
 fn take_pool_for(
     row: &HallRow,
     seat: &mut HallPlace,
@@ -82,18 +76,15 @@ fn take_pool_for(
     match full_arena(&pool, words_asked(next)) {
         Some(stop) => {
             let lane = put_together(at);
-            return_pool(row, seat, deque, pool, lane, Noting::Found(stop));
+            put_pool_and_lane(row, seat, deque, pool, lane, Noting::Found(stop));
             Err(ActRefused::Stopped(stop))
         }
         None => Ok((at, Taken::WithPool { pool, next, charge })),
     }
 }
 
-/// Takes the list, in which no end is kept.
-///
-/// # Errors
-///
-/// Another seat holds it (never, if this one has all places), or an end is kept there, which the seat is answered. The seat holds nothing.
+/// Takes the list, in which no end is kept. Fails if another seat holds it (never, if this one has all places), or an end is kept there, which the
+/// seat is answered. The seat holds nothing.
 fn take_open_list(
     row: &HallRow,
     seat: &mut HallPlace,
@@ -123,11 +114,7 @@ fn take_open_list(
     }
 }
 
-/// Takes the pool beside the list.
-///
-/// # Errors
-///
-/// Another seat holds it (never, if this one has all places). The seat holds nothing.
+/// Takes the pool beside the list. Fails if another seat holds it (never, if this one has all places). The seat holds nothing.
 fn take_pool_too(
     row: &HallRow,
     seat: &mut HallPlace,
@@ -146,17 +133,14 @@ fn take_pool_too(
         Ok(pool) => Ok((at, Taken::WithAll { list, pool, event })),
         Err(held) => {
             let lane = put_together(at);
-            return_list(row, seat, deque, list, lane, Noting::Same);
+            put_list_and_lane(row, seat, deque, list, lane, Noting::Same);
             Err(ActRefused::Busy(held))
         }
     }
 }
 
-/// Takes the list, chooses the event by what is kept there, and takes the pool if this needs it.
-///
-/// # Errors
-///
-/// Another seat holds one of them (never, if this one has all places), or an end is kept in the list. The seat holds nothing.
+/// Takes the list, chooses the event by what is kept there, and takes the pool if this needs it. Fails if another seat holds one of them (never, if
+/// this one has all places), or an end is kept in the list. The seat holds nothing.
 fn take_list_for(
     row: &HallRow,
     seat: &mut HallPlace,
@@ -181,12 +165,8 @@ fn take_list_for(
     }
 }
 
-/// Takes what the event needs for which the next action asks.
-///
-/// # Errors
-///
-/// Another seat holds a slot that the event needs (never, if this one has all places), an end is kept in the list that it needs, or the words of
-/// the action do not fit the arena. The seat holds nothing.
+/// Takes what the event needs for which the next action asks. Fails if another seat holds a slot that the event needs (never, if this one has all
+/// places), an end is kept in the list that it needs, or the words of the action do not fit the arena. The seat holds nothing.
 pub(crate) fn take_for(
     row: &HallRow,
     seat: &mut HallPlace,

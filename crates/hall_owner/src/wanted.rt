@@ -1,21 +1,15 @@
 //! What the next action of an owner asks for: by its lane, and by the list if it has to see this.
 
 ghost use Rattle.std.specs.Prelude.{◌≡◌, ◌<◌, [], false, length, IsTrue, IsSome, ◌↔◌};
-ghost use Rattle.hall_slots.specs.declared.key.HallKey.{HallKey};
+ghost use Rattle.hall_actions.specs.Passed.HallNames.{HallKey, is_there, children_of, label_of, newest, Next as AnyNext, Thread as AnyThread, kept_under};
 ghost use Rattle.thread_actions.specs.declared.readiness.Readiness.TheVariants.{Ready};
-ghost use Rattle.thread_frames.specs.Actions.{is_there};
-ghost use Rattle.thread_frames.specs.Views.{children_of, label_of, newest};
-ghost use Rattle.thread_frames.specs.declared.next.Next.{Next as AnyNext};
 ghost use Rattle.thread_frames.specs.declared.next.Next.TheVariants as nexts;
-ghost use Rattle.thread_frames.specs.declared.thread.Thread.{Thread as AnyThread};
-ghost use Rattle.thread_map.specs.Kept.{kept_under};
 ghost use Rattle.hall_owner.specs.Asked.{IsChosen, IsKeptFor, IsWantedOfList};
 ghost use Rattle.hall_owner.specs.Ready.{MayWant, Wants};
 ghost use Rattle.hall_owner.specs.declared.wanted.ListWanted.TheVariants as listed;
 
 use containers::Boxed;
 use dag_order::{Placed, ThreadId};
-use deque_list::DequeId;
 use hall_actions::{AtNext, ListEvent, WholeEvent};
 use hall_slots::ListSlot;
 use thread_actions::Readiness;

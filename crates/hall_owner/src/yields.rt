@@ -3,22 +3,17 @@
 ghost use Rattle.std.specs.Prelude.{◌≡◌, ◌≢◌, ℕ, ◌+◌, ◌<◌, [], Option, IfOk, IsOk, MatchResult, OnOk, Some};
 ghost use Rattle.dag_order.specs.declared.finish.Finish.{Finish as AnyFinish};
 ghost use Rattle.hall_slots.specs.Passed.Parts.{Has};
-ghost use Rattle.hall_slots.specs.declared.lane_slot.Running.{Running as AnyRunning};
+ghost use Rattle.hall_actions.specs.Passed.HallNames.{Running as AnyRunning, key_of, slot_count, IsSeatOf, AreTaken, HasAllPlaces, MeetsLaw};
 ghost use Rattle.hall_actions.specs.Passed.Rooms.{HasMoreBooks};
 ghost use Rattle.play_rules.specs.declared.ends.RunEnd.TheVariants.{Finished};
-ghost use Rattle.turn_table.specs.Tables.{key_of, slot_count, IsSeatOf};
-ghost use Rattle.hall_actions.specs.Passed.Puts.{HasPut};
-ghost use Rattle.hall_slots.specs.Takes.{AreTaken, HasAllPlaces, MeetsLaw};
+ghost use Rattle.hall_actions.specs.Passed.Puts.{note_of, HasPut};
 ghost use Rattle.hall_slots.specs.declared.slot.Slot.TheVariants as slots;
-ghost use Rattle.hall_actions.specs.Advancing.{MayCome};
-ghost use Rattle.play_rules.specs.declared.stop.Stop.TheVariants.{OutOfMemory as NoMemory};
-ghost use Rattle.hall_owner.specs.Holding.{found_note, IsNotBusy as IsNotRefused};
-ghost use Rattle.hall_owner.specs.Yielding.{yielded_note, GivesUp, HasBoth, IsBusy, IsGivenUp, MayYield};
+ghost use Rattle.hall_actions.specs.Advancing.{MayCome, IsNotBusy as IsNotRefused};
+ghost use Rattle.hall_owner.specs.Yielding.{GivesUp, HasBoth, IsBusy, IsGivenUp, MayYield, MayNoteBoth};
 
-use crate::refused::ActRefused;
 use containers::Boxed;
 use deque_list::DequeId;
-use hall_actions::{Noting, make_room_to_close, put_list_and_lane, return_answered, return_list};
+use hall_actions::{ActRefused, Noting, make_room_to_close, put_list_and_lane, return_answered};
 use hall_slots::{
     HallPlace, HallRow, LaneSlot, ListSlot, end_of, give_lane_back, take_lane, take_list,
 };
@@ -26,11 +21,8 @@ use play_rules::Stop;
 use std::alloc::AllocError;
 use turn_table::Held;
 
-/// Takes the lane of the deque, and then the list.
-///
-/// # Errors
-///
-/// Another seat holds one of them (never, if this one has all places). The seat holds nothing.
+/// Takes the lane of the deque, and then the list. Fails if another seat holds one of them (never, if this one has all places). The seat holds
+/// nothing.
 pub(crate) fn take_both(
     row: &HallRow,
     seat: &mut HallPlace,
@@ -54,11 +46,8 @@ pub(crate) fn take_both(
     }
 }
 
-/// Gives the deque up in the list that was taken, if there is memory to close its period, and gives its lane, in which none runs then.
-///
-/// # Errors
-///
-/// There is not enough memory. The lane comes back.
+/// Gives the deque up in the list that was taken, if there is memory to close its period, and gives its lane, in which none runs then. Fails if
+/// there is not enough memory. The lane comes back.
 pub(crate) fn give_up_in(
     list: &mut Boxed<ListSlot>,
     deque: DequeId,
@@ -68,6 +57,7 @@ pub(crate) fn give_up_in(
     requires runs { (running : AnyRunning) × (lane.running ≡ Some running) }
     ensures { MatchResult result (λ left. IsGivenUp deque list.old lane list.new left) (λ back. HasMoreBooks list.old list.new × (back ≡ lane)) }
 {
+    let list = list.get_mut();
     match make_room_to_close(list) {
         Ok(()) => (),
         Err(_) => return Err(lane),
@@ -76,41 +66,37 @@ pub(crate) fn give_up_in(
     let Some(running) = running else {
         unreachable!();
     };
-    list.get_mut().give_up(deque, running);
-    Ok(LaneSlot {
-        lane,
-        running: None,
-    })
+    list.give_up(deque, running);
+    let running = None;
+    Ok(LaneSlot { lane, running })
 }
 
-/// Gives the deque up with its lane and the list, if there is memory to close its period, and puts both back.
-///
-/// # Errors
-///
-/// There is not enough memory. What was taken is put back as it was, and this is the stop that the seat finds.
-fn close_period(
+/// Gives the deque up with its lane and the list, if there is memory to close its period, and puts both back, by which the seat notes this. Fails
+/// if there is not enough memory: what was taken is put back as it was, with the other note.
+pub(crate) fn give_up_with(
     row: &HallRow,
     seat: &mut HallPlace,
     deque: DequeId,
     list: Boxed<ListSlot>,
     lane: LaneSlot,
+    noting: Noting,
+    short: Noting,
 ) -> Result<(), AllocError>
     requires here { IsSeatOf row.now seat.old }
     requires slot { deque.0 + 2 < slot_count row.now }
     requires both { HasBoth (key_of row.now) seat.old deque list lane }
-    requires none { seat.old.hand.note.found ≡ None }
-    ensures seat { MatchResult result (λ _. HasPut seat.old (yielded_note seat.old.hand.note deque) [] seat.new)
-        (λ _. HasPut seat.old (found_note seat.old.hand.note NoMemory) [] seat.new) }
+    requires notes { MayNoteBoth (key_of row.now) seat.old deque list lane noting short }
+    ensures seat { MatchResult result (λ _. HasPut seat.old (note_of seat.old.hand.note noting) [] seat.new)
+        (λ _. HasPut seat.old (note_of seat.old.hand.note short) [] seat.new) }
 {
     let mut list = list;
     match give_up_in(&mut list, deque, lane) {
         Ok(lane) => {
-            put_list_and_lane(row, seat, deque, list, lane, Noting::Yields(deque));
+            put_list_and_lane(row, seat, deque, list, lane, noting);
             Ok(())
         }
         Err(lane) => {
-            let short = Noting::Found(Stop::OutOfMemory);
-            return_list(row, seat, deque, list, lane, short);
+            put_list_and_lane(row, seat, deque, list, lane, short);
             Err(AllocError)
         }
     }
@@ -139,7 +125,8 @@ pub fn give_up_deque(row: &HallRow, seat: &mut HallPlace, deque: DequeId) -> Res
         return_answered(row, seat, deque, list, lane);
         return Err(ActRefused::Over(end));
     }
-    match close_period(row, seat, deque, list, lane) {
+    let short = Noting::Found(Stop::OutOfMemory);
+    match give_up_with(row, seat, deque, list, lane, Noting::Yields(deque), short) {
         Ok(()) => Ok(()),
         Err(_) => Err(ActRefused::Stopped(Stop::OutOfMemory)),
     }

@@ -1,6 +1,5 @@
 use Rattle.std.proofs.Common.{◌∙◌, ap}
-use Rattle.turn_table.specs.Tables.{key_of}
-use Rattle.hall_slots.specs.declared.seat_note.SeatNote.{SeatNote}
+use Rattle.hall_actions.specs.Passed.HallNames.{key_of, SeatNote}
 use Rattle.hall_owner.specs.Yielding.{halting_note, leaving_note}
 use Rattle.hall_owner.proofs.Yielded as yielded
 use Rattle.hall_owner.proofs.leaving.leave_deque.Goals as goal

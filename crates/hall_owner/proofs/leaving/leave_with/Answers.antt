@@ -1,10 +1,8 @@
 use Rattle.std.proofs.Common.{◌<◌, [], sym, ap, ◌∙◌, subst}
-use Rattle.turn_table.specs.Tables.{key_of}
+use Rattle.hall_actions.specs.Passed.HallNames.{key_of, LaneSlot, SeatNote}
 use Rattle.hall_slots.specs.Leaving.{end_left}
 use Rattle.hall_slots.specs.ListCalls.{end_kept, IsOutOf}
 use Rattle.hall_slots.specs.Passed.Lists.{times}
-use Rattle.hall_slots.specs.declared.lane_slot.LaneSlot.{LaneSlot}
-use Rattle.hall_slots.specs.declared.seat_note.SeatNote.{SeatNote}
 use Rattle.hall_actions.specs.Passed.NotingVariants.{Halts}
 use Rattle.hall_actions.specs.Passed.Puts.{note_of, HasPut, MayPutListAndLane}
 use Rattle.hall_owner.proofs.Yielded as yielded

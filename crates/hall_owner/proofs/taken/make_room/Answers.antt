@@ -1,14 +1,16 @@
 use Rattle.std.proofs.Common.{refl, sym, subst}
+use Rattle.hall_actions.specs.WithList.{HasMoreFor}
+use Rattle.hall_slots.specs.declared.list_slot.ListSlot.{ListSlot}
 use Rattle.hall_owner.specs.Taken.{HasMoreOf}
-use Rattle.hall_owner.specs.declared.taken.Taken.TheVariants.{OnLane, WithPool, WithList, WithAll}
+use Rattle.hall_owner.specs.declared.taken.Taken.TheVariants.{WithPool, WithList, WithAll}
 use Rattle.hall_owner.proofs.Ending.{either}
 use Rattle.hall_owner.proofs.taken.make_room.Goals as goal
 
 pub returns-in-OnLane-clause-same : goal.returns-in-OnLane-clause-same
-returns-in-OnLane-clause-same c = subst (λ t. HasMoreOf t (OnLane c.in-OnLane._child)) (sym c.in-OnLane.is) refl
+returns-in-OnLane-clause-same c = subst (λ t. HasMoreOf t t) (sym c.in-OnLane.is) refl
 
 pub returns-in-WithPool-clause-same : goal.returns-in-WithPool-clause-same
-returns-in-WithPool-clause-same c = subst (λ t. HasMoreOf t (WithPool c.make_room_for_move.new.pool c.in-WithPool._next c.in-WithPool._charge)) (sym c.in-WithPool.is)
+returns-in-WithPool-clause-same c = subst (λ t. HasMoreOf t (WithPool c.make_room_for_move.new.pool c.in-WithPool.next c.in-WithPool.charge)) (sym c.in-WithPool.is)
     (c.make_room_for_move.new.pool, refl, c.make_room_for_move.ensures.same)
 
 pub returns-in-WithPool-clause-room : goal.returns-in-WithPool-clause-room
@@ -16,7 +18,11 @@ returns-in-WithPool-clause-room c = either _ _ c.make_room_for_move.result c.mak
 
 pub returns-in-WithList-clause-same : goal.returns-in-WithList-clause-same
 returns-in-WithList-clause-same c = subst (λ t. HasMoreOf t (WithList c.make_room_for.new.list c.in-WithList.event)) (sym c.in-WithList.is)
-    (c.make_room_for.new.list, refl, c.make_room_for.ensures.same)
+    (
+      c.make_room_for.new.list,
+      refl,
+      subst (λ (l : ListSlot). HasMoreFor c.in-WithList.event l c.make_room_for.new.list) c.get_mut.ensures.value c.make_room_for.ensures.same,
+    )
 
 pub returns-in-WithList-clause-room : goal.returns-in-WithList-clause-room
 returns-in-WithList-clause-room c = either _ _ c.make_room_for.result c.make_room_for.ensures.room tt

@@ -1,6 +1,8 @@
 use Rattle.std.proofs.Common.{◌+◌, ◌≤◌, ◌<◌, refl, subst}
 use Rattle.turn_table.specs.Tables.{key_of}
 use Rattle.hall_actions.specs.Passed.Taken.{its_lane}
+use Rattle.hall_actions.specs.Passed.NotingVariants.{Found}
+use Rattle.hall_actions.proofs.Returned.{pool_back}
 use Rattle.hall_owner.specs.Refusing.{IsRefusal}
 use Rattle.hall_owner.proofs.Asking.{asks}
 use Rattle.hall_owner.proofs.Given.{still_there}
@@ -15,12 +17,13 @@ give_still_back-requires-clause-still c = let r = c.requires.ready in
     c.put_together.ensures.running (still_holding c.args.seat.now c.take_pool.new.seat 1 c.in-Err.held c.in-Err.ensures.seat (key_of c.args.row.now) c.args.deque
     (its_lane c.args.deque) c.args.at c.args.next r.0 r.1.before.holding)
 
-pub return_pool-requires-clause-same : goal.return_pool-requires-clause-same
-return_pool-requires-clause-same c = let pool = c.in-Ok.pool in let r = c.requires.ready in let w = c.requires.wanted in
-    stop_back (key_of c.args.row.now) c.args.seat.now c.take_pool.new.seat c.args.deque pool c.in-Ok.ensures.seat c.in-Ok.ensures.meets c.args.at c.args.next r.0 r.1.before
+pub put_pool_and_lane-requires-clause-may : goal.put_pool_and_lane-requires-clause-may
+put_pool_and_lane-requires-clause-may c = let pool = c.in-Ok.pool in let r = c.requires.ready in let w = c.requires.wanted in
+    pool_back (key_of c.args.row.now) c.take_pool.new.seat c.args.deque (Found c.in-Some.stop) pool c.put_together-lane.result
+    (stop_back (key_of c.args.row.now) c.args.seat.now c.take_pool.new.seat c.args.deque pool c.in-Ok.ensures.seat c.in-Ok.ensures.meets c.args.at c.args.next r.0 r.1.before
     (asks (key_of c.args.row.now) c.args.at c.args.seat.now.hand.note.worker c.args.charge c.args.next r.1.before.holding.is_next.within.used w.uses.may)
     (subst (λ n. pool.pool.capacity < pool.pool.live + n) c.words_asked.ensures c.in-Some.ensures.1) c.words_asked.result c.words_asked.ensures c.in-Some.stop c.in-Some.ensures.0
-    c.put_together-lane.result c.put_together-lane.ensures.items c.put_together-lane.ensures.running
+    c.put_together-lane.result c.put_together-lane.ensures.items c.put_together-lane.ensures.running)
 
 pub returns-in-None-clause-seat : goal.returns-in-None-clause-seat
 returns-in-None-clause-seat c = let pool = c.in-Ok.pool in (
@@ -46,4 +49,4 @@ returns-in-Some-clause-seat c = let pool = c.in-Ok.pool in let r = c.requires.re
     (asks (key_of c.args.row.now) c.args.at c.args.seat.now.hand.note.worker c.args.charge c.args.next r.1.before.holding.is_next.within.used w.uses.may)
     full (IsRefusal (key_of c.args.row.now) c.args.deque c.args.at c.args.next)
     (full_refusal (key_of c.args.row.now) c.args.deque c.args.at c.args.next w.suits w.due (named c.args.at.top) pool full)
-    c.words_asked.result c.words_asked.ensures c.in-Some.stop c.in-Some.ensures.0 c.return_pool.new.seat c.return_pool.ensures
+    c.words_asked.result c.words_asked.ensures c.in-Some.stop c.in-Some.ensures.0 c.put_pool_and_lane.new.seat c.put_pool_and_lane.ensures

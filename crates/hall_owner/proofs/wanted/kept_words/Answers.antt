@@ -1,8 +1,6 @@
 use Rattle.std.proofs.Common.{sym, ap, ◌∙◌}
-use Rattle.thread_map.specs.Kept.{kept_under}
-use Rattle.thread_frames.specs.declared.thread.Thread.{Thread}
+use Rattle.hall_actions.specs.Passed.HallNames.{kept_under, Thread, ListSlot}
 use Rattle.thread_frames.specs.Passed.Joins.{released}
-use Rattle.hall_slots.specs.declared.list_slot.ListSlot.{ListSlot}
 use Rattle.hall_owner.proofs.wanted.kept_words.Goals as goal
 
 pub returns-in-Some : goal.returns-in-Some

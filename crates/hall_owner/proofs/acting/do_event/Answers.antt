@@ -8,7 +8,7 @@ use Rattle.hall_owner.specs.Ready.{IsReadyOn}
 use Rattle.hall_owner.specs.Taken.{IsNotedOn}
 use Rattle.hall_owner.proofs.Ending.{exit}
 use Rattle.hall_owner.proofs.OnTaken.{done_on, fails_on, ready_on, same_seat}
-use Rattle.hall_owner.proofs.doing.do_event.Goals as goal
+use Rattle.hall_owner.proofs.acting.do_event.Goals as goal
 
 pub prepare-requires-clause-before : goal.prepare-requires-clause-before
 prepare-requires-clause-before c = let r = c.requires.ready in (r.0, spare c.args.memory.now.births, r.1.before)

@@ -6,7 +6,7 @@ use Rattle.hall_owner.proofs.Counted.{may_draw}
 use Rattle.hall_owner.proofs.Noted.{same_action}
 use Rattle.hall_owner.proofs.Trying.{may_want, wanting}
 use Rattle.hall_owner.specs.Taken.{slots_of, IsActionOf}
-use Rattle.hall_owner.proofs.doing.prepare.Goals as goal
+use Rattle.hall_owner.proofs.acting.prepare.Goals as goal
 
 pub give_back-requires-clause-holding : goal.give_back-requires-clause-holding
 give_back-requires-clause-holding c = let b = c.requires.before in (b.0, b.1, c.args.taken, c.make_room.ensures.same, b.2.holding)

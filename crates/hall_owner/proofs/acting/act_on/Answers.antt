@@ -2,7 +2,7 @@ use Rattle.std.proofs.Common.{subst}
 use Rattle.containers.specs.BoundedList.{spare}
 use Rattle.turn_table.specs.Tables.{key_of}
 use Rattle.hall_owner.specs.Ready.{IsReadyOn}
-use Rattle.hall_owner.proofs.doing.act_on.Goals as goal
+use Rattle.hall_owner.proofs.acting.act_on.Goals as goal
 
 pub act_own_join-name-requires-clause-may : goal.act_own_join-name-requires-clause-may
 act_own_join-name-requires-clause-may c = (subst (IsReadyOn (key_of c.args.row.now) c.args.seat.now c.args.deque c.args.at (spare c.args.memory.now.births)) c.in-OnLane.is c.requires.ready).may
