@@ -6,7 +6,7 @@ use Rattle.worker_entry.specs.declared.hall.Hall.{Hall}
 use Rattle.worker_entry.specs.declared.seat.Seat.{Seat}
 use Rattle.hall_owner.proofs.Called.{fails_note}
 use Rattle.hall_owner.specs.Holding.{found_note}
-use Rattle.hall_owner.specs.declared.refused.ActRefused.TheVariants.{Busy, Over, Stopped}
+use Rattle.hall_owner.specs.Passed.ActRefusedVariants.{Busy, Over, Stopped}
 use Rattle.play_rules.specs.declared.ends.RunEnd.{RunEnd}
 use Rattle.play_rules.specs.declared.stop.Stop.{Stop}
 use Rattle.turn_table.specs.Tables.{key_of}

@@ -10,7 +10,7 @@ use Rattle.hall_slots.specs.declared.list_slot.ListSlot.{ListSlot}
 use Rattle.hall_slots.specs.declared.slot.Slot.TheVariants as slots
 use Rattle.hall_slots.specs.Takes.{IsRefused, IsTaken, MeetsLaw}
 use Rattle.worker_entry.specs.declared.hall.Hall.{Hall}
-use Rattle.worker_entry.specs.declared.lists.ListHeld.{ListHeld}
+use Rattle.worker_entry.specs.declared.thieves.ListHeld.{ListHeld}
 use Rattle.worker_entry.specs.declared.seat.Seat.{Seat}
 use Rattle.worker_entry.specs.declared.refused.EventRefused.{EventRefused}
 use Rattle.worker_entry.specs.declared.refused.EventRefused.TheVariants.{Busy, Nothing, Over, Stopped}

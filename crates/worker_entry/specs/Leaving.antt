@@ -4,7 +4,6 @@ use Rattle.dag_order.specs.declared.finish.Finish.{Finish}
 use Rattle.deque_list.specs.declared.deque_id.DequeId.{DequeId}
 use Rattle.play_rules.specs.declared.ends.RunEnd.{RunEnd}
 use Rattle.play_rules.specs.declared.ends.RunEnd.TheVariants.{Finished}
-use Rattle.play_rules.specs.declared.stop.Stop.{Stop}
 use Rattle.play_rules.specs.declared.stop.Stop.TheVariants as stops
 use Rattle.turn_table.specs.declared.held.Held.{Held}
 use Rattle.turn_table.specs.Tables.{key_of}
@@ -16,7 +15,7 @@ use Rattle.hall_slots.specs.declared.event.Event.TheVariants.{GaveUp}
 use Rattle.hall_slots.specs.declared.list_slot.ListSlot.{ListSlot}
 use Rattle.hall_slots.specs.declared.seat_note.SeatNote.{SeatNote}
 use Rattle.hall_owner.specs.Yielding.{halting_note, leaving_note, stop_then, yielded_note, GivesUp, HasTakenBoth, IsBusy}
-use Rattle.hall_owner.specs.declared.refused.ActRefused.TheVariants as failed
+use Rattle.hall_owner.specs.Passed.ActRefusedVariants as failed
 use Rattle.worker_entry.specs.declared.hall.Hall.{Hall}
 use Rattle.worker_entry.specs.declared.seat.Seat.{Seat}
 use Rattle.worker_entry.specs.declared.refused.EventRefused.{EventRefused}

@@ -2,9 +2,9 @@
 use Rattle.std.specs.Prelude.{◌≡◌, ◌⊎◌, None, Some, Bool, Result, Ok, Err}
 use Rattle.deque_list.specs.declared.deque_id.DequeId.{DequeId}
 use Rattle.turn_table.specs.Tables.{key_of}
-use Rattle.hall_owner.specs.Stepping.{GoesSteps}
-use Rattle.hall_owner.specs.declared.refused.ActRefused.{ActRefused}
-use Rattle.hall_owner.specs.declared.refused.ActRefused.TheVariants as failed
+use Rattle.hall_owner.specs.Passed.Stepping.{GoesSteps}
+use Rattle.hall_owner.specs.Passed.ActRefused.{ActRefused}
+use Rattle.hall_owner.specs.Passed.ActRefusedVariants as failed
 use Rattle.worker_entry.specs.declared.hall.Hall.{Hall}
 use Rattle.worker_entry.specs.declared.seat.Seat.{Seat}
 use Rattle.worker_entry.specs.declared.refused.EventRefused.{EventRefused}

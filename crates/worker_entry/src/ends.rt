@@ -69,11 +69,8 @@ impl Hall {
     }
 }
 
-/// Gives the deque of a seat up where an end is kept, for a seat that has all places.
-///
-/// # Errors
-///
-/// No end is kept, or there is not enough memory, which the seat notes as its stop if it had found none.
+/// Gives the deque of a seat up where an end is kept, for a seat that has all places. Fails if no end is kept, or there is not enough memory, which
+/// the seat notes as its stop if it had found none.
 fn let_go(hall: &Hall, seat: &mut Seat) -> Result<RunEnd, LastRefused>
     requires here { IsIn hall.now seat.old }
     requires owns { (deque : DequeId) × (seat.old.owned ≡ Some deque) }

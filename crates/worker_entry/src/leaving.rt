@@ -87,11 +87,8 @@ fn keep_stop(hall: &Hall, seat: Seat) -> (Seat, LeaveRefused)
     }
 }
 
-/// Gives the deque of a seat up and lets its worker leave, by one put back.
-///
-/// # Errors
-///
-/// Another seat holds the lane of the deque or the list, or there is not enough memory to give the deque up.
+/// Gives the deque of a seat up and lets its worker leave, by one put back. Fails if another seat holds the lane of the deque or the list, or there
+/// is not enough memory to give the deque up.
 fn leave_with_deque(hall: &Hall, seat: &mut Seat) -> Result<(), LeaveRefused>
     requires here { IsIn hall.now seat.old }
     requires owns { (deque : DequeId) × (seat.old.owned ≡ Some deque) }

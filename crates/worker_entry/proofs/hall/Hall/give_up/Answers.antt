@@ -3,8 +3,8 @@ use Rattle.std.specs.Prelude.{Err}
 use Rattle.hall_owner.specs.Yielding.{GivesUp}
 use Rattle.play_rules.specs.declared.ends.RunEnd.{RunEnd}
 use Rattle.play_rules.specs.declared.stop.Stop.{Stop}
-use Rattle.hall_owner.specs.declared.refused.ActRefused.{ActRefused}
-use Rattle.hall_owner.specs.declared.refused.ActRefused.TheVariants.{Over, Stopped}
+use Rattle.hall_owner.specs.Passed.ActRefused.{ActRefused}
+use Rattle.hall_owner.specs.Passed.ActRefusedVariants.{Over, Stopped}
 use Rattle.worker_entry.proofs.hall.Hall.give_up.Goals as goal
 
 pub returns-in-Ok-clause-seat : goal.returns-in-Ok-clause-seat
