@@ -87,8 +87,8 @@ pub(crate) fn make_try<C: Choices>(
     answer_of(go_on(hall, code, seat, choices))
 }
 
-/// For how many turns of loops and calls a thread goes on before its worker gives the lane back for a while: some 100 microseconds, so that a
-/// thief need not wait for long, and the time in which the lane is free costs less than a hundredth.
+/// For how many turns of loops and calls a thread goes on before its worker gives the lane back for a while: some 40 microseconds, so that a
+/// thief need not wait for long, and the time in which the lane is free costs about a thirtieth.
 const TURNS_AT_ONCE: u32 = 1_000;
 
 /// Lets the top thread of a worker that owns a deque go on without an event, and says whether it is still on its way to its next action.

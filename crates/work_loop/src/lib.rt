@@ -23,7 +23,7 @@
 //! - **The 250 tries between two sleeps take longer than a worker holds its lane** (`TURNS_AT_ONCE` of `hall_threads`). A thief that was awake
 //!   for less would find the lane of a long branch held each time. In a model, sleeps without this look took 257 batches until a steal.
 //! - **A worker that gives its lane back for a while leaves it free for 100 turns of the processor** (`FREE_TURNS`). With none it took the lane
-//!   back some 400 times before a thief that was always looking had it; with 100 once, at less than a hundredth of the time.
+//!   back some 400 times before a thief that was always looking had it; with 100 once, at about a thirtieth of the time.
 #![tactic(auto)]
 
 mod crew;
