@@ -7,7 +7,7 @@ use Rattle.hall_parts.specs.HallNames.{Slot, JoinsNewest, IsAtPoint, children_of
 use Rattle.depth_first_list.specs.Actions.{record_words}
 use Rattle.depth_first_list.specs.declared.quota.Quota.{Quota}
 use Rattle.language_limits.specs.declared.TheConstants.{GREATEST_COUNT, GREATEST_QUOTA}
-use Rattle.node_table.specs.declared.code.Code.{Code}
+use Rattle.node_table.specs.declared.node_table.NodeTable.{NodeTable}
 use Rattle.hall_parts.specs.Passed.StopVariants.{OutOfMemory as NoMemory}
 use Rattle.turn_table.specs.declared.look.Look.{Look}
 use Rattle.turn_table.specs.declared.look.Look.TheVariants.{Took}

@@ -16,11 +16,10 @@ use depth_first_list::Quota;
 use deque_list::DequeId;
 use hall_parts::give_short_back;
 use hall_slots::{HallPlace, HallRow, LaneSlot, take_lane};
-use node_table::Code;
 use play_rules::Stop;
 use std::alloc::{AllocError, Global};
 use thread_actions::advance;
-use thread_frames::Next;
+use thread_frames::{Code, Next};
 
 /// Asks for the memory that the next event needs in the lane and in the seat.
 fn make_room(lane: &mut LaneSlot, memory: &mut SeatMemory, alloc: Global) -> Result<(), AllocError>

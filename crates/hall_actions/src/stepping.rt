@@ -11,9 +11,9 @@ use depth_first_list::Quota;
 use deque_list::DequeId;
 use hall_parts::{give_short_back, give_still_back};
 use hall_slots::{HallPlace, HallRow, take_lane};
-use node_table::Code;
 use play_rules::Stop;
 use std::alloc::Global;
+use thread_frames::Code;
 
 /// Takes the lane of the seat's deque, lets its top thread go on towards its next action for some `most` turns, and gives the lane back. It says
 /// whether the thread in the lane that goes back is before its action, which is not done. The seat holds nothing, and notes what it noted.

@@ -24,7 +24,6 @@ use hall_actions::{
     act_with_pool, come_to_next,
 };
 use hall_slots::{Event, HallPlace, HallRow, count_action};
-use node_table::Code;
 use play_rules::Stop;
 use std::alloc::Global;
 use thread_frames::{Code, Next};
