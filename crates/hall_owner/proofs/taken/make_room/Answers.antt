@@ -17,12 +17,11 @@ pub returns-in-WithPool-clause-room : goal.returns-in-WithPool-clause-room
 returns-in-WithPool-clause-room c = either _ _ c.make_room_for_move.result c.make_room_for_move.ensures.room tt
 
 pub returns-in-WithList-clause-same : goal.returns-in-WithList-clause-same
-returns-in-WithList-clause-same c = subst (λ t. HasMoreOf t (WithList c.make_room_for.new.list c.in-WithList.event)) (sym c.in-WithList.is)
-    (
-      c.make_room_for.new.list,
-      refl,
-      subst (λ (l : ListSlot). HasMoreFor c.in-WithList.event l c.make_room_for.new.list) c.get_mut.ensures.value c.make_room_for.ensures.same,
-    )
+returns-in-WithList-clause-same c = subst (λ t. HasMoreOf t (WithList c.make_room_for.new.list c.in-WithList.event)) (sym c.in-WithList.is) (
+  c.make_room_for.new.list,
+  refl,
+  subst (λ (l : ListSlot). HasMoreFor c.in-WithList.event l c.make_room_for.new.list) c.get_mut.ensures.value c.make_room_for.ensures.same,
+)
 
 pub returns-in-WithList-clause-room : goal.returns-in-WithList-clause-room
 returns-in-WithList-clause-room c = either _ _ c.make_room_for.result c.make_room_for.ensures.room tt
